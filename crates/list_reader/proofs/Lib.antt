@@ -1,0 +1,5 @@
+mod Edges
+mod Letters
+mod Lists
+mod Telling
+mod Writing
