@@ -1,4 +1,6 @@
 //! A layer over any class table that remembers answers of find del.
+#![tactic(auto)]
+
 mod answers;
 mod layer;
 mod types;

@@ -1,4 +1,6 @@
 //! The rows that class tables are built of, and a table that goes through them at each question.
+#![tactic(auto)]
+
 mod ancestors;
 mod table;
 mod types;

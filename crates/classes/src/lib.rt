@@ -1,4 +1,6 @@
 //! Class tables, by their meaning.
+#![tactic(auto)]
+
 ghost use Rattle.std.specs.Prelude.{◌≡◌, List, length, slice_index};
 ghost use Rattle.classes.specs.Rows.{Class, class_at, find_del, set_del, after_set_del};
 

@@ -1,1 +1,3 @@
 //! The definition of the object core.
+#![tactic(auto)]
+

@@ -1,1 +1,3 @@
 //! The law of the object core, over every run.
+#![tactic(auto)]
+

@@ -1,4 +1,6 @@
 //! Checks a call list: prints what each line asks for.
+#![tactic(auto)]
+
 mod describe;
 mod report;
 

@@ -1,4 +1,6 @@
 //! The calls that the lines of a call list ask for.
+#![tactic(auto)]
+
 mod arguments;
 mod call;
 mod fault;

@@ -1,4 +1,6 @@
 //! Examples for the readers of call lists.
+#![tactic(auto)]
+
 #[cfg(test)]
 mod lines;
 #[cfg(test)]

@@ -1,4 +1,6 @@
 //! The lines of a list, and the words and numbers of a line.
+#![tactic(auto)]
+
 mod cut;
 mod lines;
 mod number;

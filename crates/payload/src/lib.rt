@@ -1,4 +1,6 @@
 //! Payloads, by their meaning.
+#![tactic(auto)]
+
 ghost use Rattle.std.specs.Prelude.{◌≡◌, length, slice_index};
 ghost use Rattle.payload.specs.Meaning.{Meaning, Proper, with_edge};
 

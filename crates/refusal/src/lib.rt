@@ -1,4 +1,6 @@
 //! Why a call is refused: the refusals, their numbers, and the argument that is to blame.
+#![tactic(auto)]
+
 ghost use Rattle.std.specs.Prelude.{◌≡◌};
 ghost use Rattle.refusal.specs.Numbers.{number};
 
