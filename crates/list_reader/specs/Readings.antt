@@ -21,11 +21,11 @@ asked (Upgrade reference) = calls.Upgrade reference
 asked (Intern object) = calls.Intern object
 asked (HandBack turn) = calls.HandBack turn
 
--- a fault tells what the line is, and `short-of-memory` is what want of memory tells
+-- a fault tells what the line is, and `short_of_memory` is what want of memory tells
 abbrev pub Tells : Type 0 → Said → Fault → Type 0
-Tells short-of-memory line (Unreadable word) = line ≡ Quotes word.now
-Tells short-of-memory line TooFew = line ≡ Short
-Tells short-of-memory line Memory = short-of-memory
+Tells short_of_memory line (Unreadable word) = line ≡ Quotes word.now
+Tells short_of_memory line TooFew = line ≡ Short
+Tells short_of_memory line Memory = short_of_memory
 
 -- only a make can want memory
 abbrev pub Makes : List ℕ → Type 0

@@ -3,12 +3,12 @@ use Rattle.classes.specs.Rows.{class_at, known}
 use Rattle.classes.proofs.Checks.{known_by, known_all}
 use Rattle.classes.proofs.good.knows_ancestors.Goals as goal
 
-pub returns-then-not-is-known : goal.returns-then-not-is-known
-returns-then-not-is-known g c =
+pub returns-then-not-is_known : goal.returns-then-not-is_known
+returns-then-not-is_known g c =
     let rows = g.T.ClassTable.rows c.args.table.now in
     let ancestors = (class_at rows c.args.class).ancestors in
     let i = c.loop-position.position in
-    let e : known rows (get_or ancestors i 0) ≡ false = sym (c.if-not-is-known.ensures ∙ ap (known rows) c.ancestor.ensures) in
+    let e : known rows (get_or ancestors i 0) ≡ false = sym (c.if-not-is_known.ensures ∙ ap (known rows) c.ancestor.ensures) in
     sym (known_by rows ancestors i false (omega arith) e) ∙ c.loop-position.invariant
 
 pub loop-position-preserved : goal.loop-position-preserved
@@ -16,7 +16,7 @@ loop-position-preserved g c =
     let rows = g.T.ClassTable.rows c.args.table.now in
     let ancestors = (class_at rows c.args.class).ancestors in
     let i = c.loop-position.position in
-    let e : known rows (get_or ancestors i 0) ≡ true = sym (c.if-not-is-known.ensures ∙ ap (known rows) c.ancestor.ensures) in
+    let e : known rows (get_or ancestors i 0) ≡ true = sym (c.if-not-is_known.ensures ∙ ap (known rows) c.ancestor.ensures) in
     sym (known_by rows ancestors i true (omega arith) e) ∙ c.loop-position.invariant
 
 pub returns : goal.returns

@@ -8,7 +8,7 @@ use Rattle.list_reader.proofs.list.read_list.Goals as goal
 
 pub loop-line-preserved : goal.loop-line-preserved
 loop-line-preserved c =
-    list_more (vec_items c.loop-line.read) _ _ (lines c.loop-line.lines.rest.now) (lines c.next-line.new.self.rest.now) _ _ c.loop-line.invariant c.in-Some.ensures c.in-ok-read-line.ensures c.in-ok-push.ensures.items
+    list_more (vec_items c.loop-line.read) _ _ (lines c.loop-line.lines.rest.now) (lines c.next_line.new.self.rest.now) _ _ c.loop-line.invariant c.in-Some.ensures c.in_ok-read_line.ensures c.in_ok-push.ensures.items
 
 pub returns : goal.returns
 returns c =

@@ -10,24 +10,24 @@ after_object class object ws = one_number ws (λ callback rest. no_more rest (As
 abbrev after_class : ℕ → List (List ℕ) → Said
 after_class class ws = one_number ws (after_object class)
 
-pub returns-in-err-class : goal.returns-in-err-class
-returns-in-err-class c = let p = err_from_is_err_and c.from-residual.result c.from-residual.ensures.1 in rw (p.1, p.2) (c.in-err-class.ensures after_class)
+pub returns-in_err-class : goal.returns-in_err-class
+returns-in_err-class c = let p = err_from_is_err_and c.from_residual.result c.from_residual.ensures.1 in rw (p.1, p.2) (c.in_err-class.ensures after_class)
 
-pub returns-in-err-object : goal.returns-in-err-object
-returns-in-err-object c =
-    let p = err_from_is_err_and c.from-residual-in-err-object.result c.from-residual-in-err-object.ensures.1 in
-    rw (p.1, p.2) (tells_same ⊥ _ _ _ (c.in-ok-class.ensures after_class) (c.in-err-object.ensures (after_object c.in-ok-class.class)))
+pub returns-in_err-object : goal.returns-in_err-object
+returns-in_err-object c =
+    let p = err_from_is_err_and c.from_residual-in_err-object.result c.from_residual-in_err-object.ensures.1 in
+    rw (p.1, p.2) (tells_same ⊥ _ _ _ (c.in_ok-class.ensures after_class) (c.in_err-object.ensures (after_object c.in_ok-class.class)))
 
-pub returns-in-err-callback : goal.returns-in-err-callback
-returns-in-err-callback c =
-    let p = err_from_is_err_and c.from-residual-in-err-callback.result c.from-residual-in-err-callback.ensures.1 in
+pub returns-in_err-callback : goal.returns-in_err-callback
+returns-in_err-callback c =
+    let p = err_from_is_err_and c.from_residual-in_err-callback.result c.from_residual-in_err-callback.ensures.1 in
     rw (p.1, p.2)
     (tells_same ⊥ _ _ _
-    (c.in-ok-class.ensures after_class ∙ c.in-ok-object.ensures (after_object c.in-ok-class.class))
-    (c.in-err-callback.ensures (λ callback. Asks (Weaken c.in-ok-class.class c.in-ok-object.object callback))))
+    (c.in_ok-class.ensures after_class ∙ c.in_ok-object.ensures (after_object c.in_ok-class.class))
+    (c.in_err-callback.ensures (λ callback. Asks (Weaken c.in_ok-class.class c.in_ok-object.object callback))))
 
 pub returns : goal.returns
 returns c =
-    c.in-ok-class.ensures after_class
-    ∙ c.in-ok-object.ensures (after_object c.in-ok-class.class)
-    ∙ c.in-ok-callback.ensures (λ callback. Asks (Weaken c.in-ok-class.class c.in-ok-object.object callback))
+    c.in_ok-class.ensures after_class
+    ∙ c.in_ok-object.ensures (after_object c.in_ok-class.class)
+    ∙ c.in_ok-callback.ensures (λ callback. Asks (Weaken c.in_ok-class.class c.in_ok-object.object callback))

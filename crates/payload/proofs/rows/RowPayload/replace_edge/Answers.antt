@@ -4,8 +4,8 @@ use Rattle.std.proofs.lemmas.List.{set_past}
 use Rattle.payload.proofs.Edges.{names_set}
 use Rattle.payload.proofs.rows.RowPayload.replace_edge.Goals as goal
 
-pub invariant-of-self : goal.invariant-of-self
-invariant-of-self c =
+pub invariant_of-self : goal.invariant_of-self
+invariant_of-self c =
     let row = c.args.self.now in
     (row.few, (simp length-set row.room, (names_set row.edges c.args.position c.args.edge row.names (omega arith), tt)))
 
