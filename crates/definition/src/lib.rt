@@ -1,3 +1,2 @@
 //! The definition of the object core.
 #![tactic(auto)]
-

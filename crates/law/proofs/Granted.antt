@@ -24,11 +24,11 @@ All-false (b ∷ bs) = (b ≡ false) × All-false bs
 
 none_left : (n : ℕ) (bs : List Bool) → leftmost (suc n) bs ≡ 0 → All-false bs
 none_left n [] e = tt
-none_left n (b ∷ bs) e = go b refl
+none_left n (b ∷ bs) e = go b refl (none_left (suc n) bs)
   where
-    go : (c : Bool) → b ≡ c → All-false (b ∷ bs)
-    go true q = let z : suc n ≡ 0 = rw q at e in absurd (omega arith)
-    go false q = (q, none_left (suc n) bs (rw q at e))
+    go : (c : Bool) → b ≡ c → (leftmost (suc (suc n)) bs ≡ 0 → All-false bs) → All-false (b ∷ bs)
+    go true q rest = let z : suc n ≡ 0 = rw q at e in absurd (omega arith)
+    go false q rest = (q, rest (rw q at e))
 
 -- the conditions on names, and the call's own
 pub record Granted (c : Call) (s : State) : Type 0 where

@@ -1,3 +1,2 @@
 //! The law of the object core, over every run.
 #![tactic(auto)]
-

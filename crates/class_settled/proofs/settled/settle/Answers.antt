@@ -13,10 +13,10 @@ pub loop-i-preserved : goal.loop-i-preserved
 loop-i-preserved c =
     let xs = c.loop-i.answers in
     let i = c.loop-i.i in
-    let v = c.del-of.result in
+    let v = c.del_of.result in
     let P : ℕ → Type 0 = λ k. get_or (set xs i v) k 0 ≡ find_del (rows_of c.args.rows.now) (k + 1) in (
       length-set xs i v ∙ c.loop-i.invariant.0,
       below_more P i
           (λ k h. let ne : k ≢ i = omega arith in get_or-set_other xs i k v 0 ne ∙ c.loop-i.invariant.1 k h)
-          (get_or-set_same xs i v 0 (omega arith) ∙ c.del-of.ensures),
+          (get_or-set_same xs i v 0 (omega arith) ∙ c.del_of.ensures),
     )

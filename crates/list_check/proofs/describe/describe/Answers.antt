@@ -21,18 +21,18 @@ returns-in-Intern c = made_of _ _ _ c.in-Intern.is c.format-in-Intern.ensures.ok
 pub returns-in-HandBack : goal.returns-in-HandBack
 returns-in-HandBack c = made_of _ _ _ c.in-HandBack.is c.format-in-HandBack.ensures.ok
 
-pub returns-in_ok-edges : goal.returns-in_ok-edges
-returns-in_ok-edges c =
-    let names = c.in_ok-edges.ensures ∙ ap edged c.as-slice.ensures.value in
+pub returns-in_ok-edges-in-Make : goal.returns-in_ok-edges-in-Make
+returns-in_ok-edges-in-Make c =
+    let names = c.in_ok-edges-in-Make.ensures ∙ ap edged c.as_slice.ensures.value in
     made_of _ _ _ c.in-Make.is
     (made_same _ _ _
-    (ap (λ (w : List ℕ). codes "make an object of class " ++ (decimal c.in-Make.class ++ (w ++ string_bytes c.in_ok-edges.edges))) c.in_ok-dictionary.ensures
+    (ap (λ (w : List ℕ). codes "make an object of class " ++ (decimal c.in-Make.class ++ (w ++ string_bytes c.in_ok-edges-in-Make.edges))) c.in_ok-dictionary-in-Make.ensures
     ∙ ap (λ (w : List ℕ). codes "make an object of class " ++ (decimal c.in-Make.class ++ (named (codes "dictionary") c.in-Make.dictionary ++ w))) names)
     c.format.ensures.ok)
 
-pub returns-in_ok-callback : goal.returns-in_ok-callback
-returns-in_ok-callback c =
+pub returns-in_ok-callback-in-Weaken : goal.returns-in_ok-callback-in-Weaken
+returns-in_ok-callback-in-Weaken c =
     made_of _ _ _ c.in-Weaken.is
     (made_same _ _ _
-    (ap (λ (w : List ℕ). codes "make a weak reference of class " ++ (decimal c.in-Weaken.class ++ (codes " to object " ++ (decimal c.in-Weaken.object ++ w)))) c.in_ok-callback.ensures)
+    (ap (λ (w : List ℕ). codes "make a weak reference of class " ++ (decimal c.in-Weaken.class ++ (codes " to object " ++ (decimal c.in-Weaken.object ++ w)))) c.in_ok-callback-in-Weaken.ensures)
     c.format-in-Weaken.ensures.ok)

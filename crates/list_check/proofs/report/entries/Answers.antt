@@ -5,7 +5,7 @@ use Rattle.list_check.proofs.report.entries.Goals as goal
 pub loop-i-preserved : goal.loop-i-preserved
 loop-i-preserved c =
     entries_more c.args.lines.now c.loop-i.i _ (vec_items c.loop-i.text) _ (omega arith) c.index-lines-i.is
-    (c.in_ok-extend-from-slice.ensures.items ∙ ap (λ (w : List ℕ). vec_items c.loop-i.text ++ w) (c.as-slice.ensures.value ∙ c.in_ok-numbered.ensures))
+    (c.in_ok-extend_from_slice.ensures.items ∙ ap (λ (w : List ℕ). vec_items c.loop-i.text ++ w) (c.as_slice.ensures.value ∙ c.in_ok-numbered.ensures))
     c.loop-i.invariant
 
 pub returns : goal.returns

@@ -5,7 +5,7 @@ use Rattle.list_check.proofs.report.numbered.Goals as goal
 
 pub returns : goal.returns
 returns c =
-    entry_is c.args.number (said c.args.line.now) (vec_items c.in_ok-text.text) (vec_items c.extend-from-slice.new.self) _
-    (c.in_ok-text.ensures.items ∙ c.as-bytes.ensures.value ∙ c.in_ok-format.ensures.ok)
-    (c.in_ok-extend-from-slice.ensures.items ∙ ap (λ (w : List ℕ). vec_items c.in_ok-text.text ++ w) (c.as-slice.ensures.value ∙ c.in_ok-tell.ensures))
+    entry_is c.args.number (said c.args.line.now) (vec_items c.in_ok-text.text) (vec_items c.extend_from_slice.new.self) _
+    (c.in_ok-text.ensures.items ∙ c.as_bytes.ensures.value ∙ c.in_ok-format.ensures.ok)
+    (c.in_ok-extend_from_slice.ensures.items ∙ ap (λ (w : List ℕ). vec_items c.in_ok-text.text ++ w) (c.as_slice.ensures.value ∙ c.in_ok-tell.ensures))
     c.in_ok-push.ensures.items

@@ -6,4 +6,4 @@ use Rattle.list_check.proofs.report.summary.Goals as goal
 
 pub returns : goal.returns
 returns c =
-    made_same _ _ _ (summed_is (map said c.args.lines.now) _ _ _ (sym (length-map c.args.lines.now said)) c.count-calls-calls.ensures.value refl) c.format.ensures.ok
+    made_same _ _ _ (summed_is (map said c.args.lines.now) _ _ _ (sym (length-map c.args.lines.now said)) c.count_calls-calls.ensures.value refl) c.format.ensures.ok

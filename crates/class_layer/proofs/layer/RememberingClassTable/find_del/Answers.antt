@@ -7,7 +7,7 @@ pub returns-in-Some : goal.returns-in-Some
 returns-in-Some g c =
     let s = c.args.self.now in
     let rows = g.T.ClassTable.rows s.below in
-    let e : looked_up s.answers.kept c.args.class ≡ Some c.in-Some.del = sym c.look-up.ensures ∙ c.in-Some.is in
+    let e : looked_up s.answers.kept c.args.class ≡ Some c.in-Some.del = sym c.look_up.ensures ∙ c.in-Some.is in
     record {
       value = found_right rows s.answers.kept c.args.class c.in-Some.del c.requires.right e;
       same = refl;
@@ -19,8 +19,8 @@ pub returns : goal.returns
 returns g c =
     let s = c.args.self.now in
     let rows = g.T.ClassTable.rows s.below in
-    let call = c.find-del-del in
-    let e : looked_up s.answers.kept c.args.class ≡ None = sym c.look-up.ensures ∙ c.in-default.is in
+    let call = c.find_del-del in
+    let e : looked_up s.answers.kept c.args.class ≡ None = sym c.look_up.ensures ∙ c.in_default.is in
     record {
       value = call.ensures.value;
       same = call.ensures.same;
