@@ -1,11 +1,10 @@
 -- Going on until no work is left: how long does not matter, once it is long enough.
-use Rattle.std.proofs.Common.{◌≡◌, ℕ, zero, suc, ◌+◌, ◌<◌, ◌≤◌, Bool, true, false, cond, ◌⊎◌, List, [], ◌∷◌, ◌++◌, get_or, set, sym, refl, ap, ◌∙◌, subst, inl, inr, arith}
+use Rattle.std.proofs.Common.{◌≡◌, ℕ, zero, suc, ◌<◌, ◌≤◌, true, ◌⊎◌, List, [], ◌∷◌, ◌++◌, get_or, set, sym, refl, ap, ◌∙◌, inl, inr, arith}
 use Rattle.std.proofs.lemmas.Bool.{both_ways, cond-true}
-use Rattle.definition.specs.Base.{count}
 use Rattle.definition.specs.State.{Phase, Absent, Resting, DelOpen, Taking, Draining, Calling, Freeing, Leaving, State, is_open}
 use Rattle.definition.specs.Changes.{with_phase, with_places, with_callback, with_giving}
-use Rattle.definition.specs.Death.{give_up, unlisted, going_on, on_top, advance, frees_by, frees_top, frees, waits, rests, work, settle, freed_in, settled, freed}
-use Rattle.definition.proofs.Advance.{is_dying, Idle, Cases, advance_cases}
+use Rattle.definition.specs.Death.{unlisted, going_on, on_top, advance, frees_by, frees_top, frees, waits, rests, work, settle, freed_in, settled, freed}
+use Rattle.definition.proofs.Advance.{is_dying, Idle, advance_cases}
 use Rattle.definition.proofs.Work.{Tidy, top_below, phase_tidy, give_up_work, gives_work, takes_work, completes_work, clears_work, drains_work, empties_work, leaves_work, frees_work, advance_tidy}
 
 -- nothing goes on

@@ -1,12 +1,12 @@
 -- The deaths that a call starts come to rest.
-use Rattle.std.proofs.Common.{◌≡◌, ℕ, zero, suc, ◌+◌, ◌-◌, ◌*◌, ◌<◌, ◌≤◌, min, Bool, true, false, cond, not, ◌&&◌, eqb, ltb, leb, ◌⊎◌, List, [], ◌∷◌, ◌++◌, length, get_or, set, sym, refl, ap, ◌∙◌, subst, inl, inr, arith, length-append, length-set}
-use Rattle.std.proofs.lemmas.Bool.{eqb-true, ne_eqb, cases_eq, cases_lt, cases_Bool, and_parts, leb-true, leb-false, ltb-true, ltb-false, cond-true, cond-false, cond_both}
-use Rattle.definition.specs.Base.{put, count, without, sum_to}
-use Rattle.definition.specs.State.{Phase, Absent, Resting, DelOpen, Taking, Draining, Calling, Freeing, Leaving, State, is_unfreed, is_resting, is_open}
-use Rattle.definition.specs.Changes.{with_phase, with_places, with_callback, with_weak, with_cached, with_strong, with_held, with_giving, with_turns, with_stack, erased}
-use Rattle.definition.specs.Death.{loose, less, more, spent, found, pushed, opened, del_opens, clearing_begins, dies, lost, give_up, uncached, takes, round_ends, taking, drains, draining, unlisted, freeing, leaving, by_phase, going_on, on_top, advance, waits, rests, weight, weighs, work, settle, settled, frees, freed_in, freed}
-use Rattle.definition.proofs.Sums.{same, point, sum_same, sum_point, sum_le, count_cons, count_here, length_without}
-use Rattle.definition.proofs.Advance.{is_dying, resting_phase, give_up_cases, Top, Rounds, Idle, Cases, advance_cases}
+use Rattle.std.proofs.Common.{◌≡◌, ℕ, suc, ◌+◌, ◌*◌, ◌<◌, ◌≤◌, true, not, ◌&&◌, eqb, ◌⊎◌, List, [], ◌∷◌, ◌++◌, length, get_or, set, refl, inl, inr, arith, length-append, length-set}
+use Rattle.std.proofs.lemmas.Bool.{ne_eqb, cases_lt, and_parts, cond_both}
+use Rattle.definition.specs.Base.{put, count}
+use Rattle.definition.specs.State.{Phase, Absent, Resting, DelOpen, Taking, Draining, Calling, Freeing, Leaving, State, is_unfreed, is_resting}
+use Rattle.definition.specs.Changes.{with_phase, with_places, with_callback, with_weak, with_held, with_giving}
+use Rattle.definition.specs.Death.{less, more, spent, found, pushed, opened, del_opens, clearing_begins, give_up, uncached, takes, drains, unlisted, leaving, advance, weight, weighs, work}
+use Rattle.definition.proofs.Sums.{same, point, sum_point, sum_le, count_cons, count_here, length_without}
+use Rattle.definition.proofs.Advance.{is_dying, give_up_cases, Top, Rounds, advance_cases}
 
 -- one object's weight changes
 lighter : (s t : State) (o : ℕ) → o < s.next → s.next ≡ t.next → ((k : ℕ) → (k ≡ o → ⊥) → weighs t k ≡ weighs s k) → work t + weighs s o ≡ work s + weighs t o

@@ -1,11 +1,11 @@
 -- The calls: when each is refused, what it changes, what it answers.
-use Rattle.std.specs.Prelude.{ℕ, zero, suc, ◌+◌, ◌-◌, min, Bool, true, false, cond, not, ◌&&◌, ◌||◌, List, [], ◌∷◌, ◌++◌, map, length, drop, set, replicate, Some, None, Ok, Err, Option, Result, ◌==◌, nat_le, nat_lt, slice_index, slice_set}
+use Rattle.std.specs.Prelude.{ℕ, suc, ◌+◌, ◌-◌, min, Bool, true, false, cond, not, ◌&&◌, ◌||◌, List, [], ◌∷◌, ◌++◌, map, length, drop, replicate, Some, None, Ok, Err, Option, Result, ◌==◌, nat_le, nat_lt, slice_index, slice_set}
 use Rattle.refusal.specs.declared.Fault.{Fault}
 use Rattle.refusal.specs.declared.Refusal.TheVariants.{NoClass, WrongClass, FixedClass, NotWeak, NoPlace, Marked, CountFull, NoRoom, BirthsSpent, NotNewest, ListShort}
 use Rattle.payload.specs.Meaning.{Meaning}
 use Rattle.classes.specs.Rows.{Class, class_at, known, after_set_del}
-use Rattle.definition.specs.Base.{put, those}
-use Rattle.definition.specs.State.{Phase, Absent, Resting, DelOpen, Taking, Draining, Calling, Freeing, Leaving, Shape, State, is_live}
+use Rattle.definition.specs.Base.{those}
+use Rattle.definition.specs.State.{Phase, Absent, Resting, DelOpen, Taking, Draining, Calling, Freeing, Leaving, State, is_live}
 use Rattle.definition.specs.Changes.{with_phase, with_places, with_weak, with_cached, with_strong, with_handles, with_interned, with_turns, with_stack, with_attends, with_classes, with_all_handles, born}
 use Rattle.definition.specs.Death.{loose, less, spent, clearing_begins, give_up, settled, freed}
 use Rattle.definition.specs.Refusals.{Ground, first_met, at_argument, at_none, Argument, Plain, Names, Gives, Stores, taken_all, naming, count_full, no_room, births_spent}

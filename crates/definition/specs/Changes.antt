@@ -1,5 +1,5 @@
 -- A state with one thing changed.
-use Rattle.std.specs.Prelude.{ℕ, suc, ◌+◌, ◌-◌, Bool, true, false, List, [], ◌∷◌}
+use Rattle.std.specs.Prelude.{ℕ, suc, ◌-◌, Bool, false, List, []}
 use Rattle.classes.specs.Rows.{Class}
 use Rattle.definition.specs.Base.{put}
 use Rattle.definition.specs.State.{Phase, Absent, Resting, Shape, no_shape, State}

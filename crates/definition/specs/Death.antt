@@ -1,9 +1,9 @@
 -- How references are given up and objects die, one small step at a time.
-use Rattle.std.specs.Prelude.{ℕ, zero, suc, ◌+◌, ◌-◌, ◌*◌, min, Bool, true, false, cond, not, ◌&&◌, ◌||◌, List, [], ◌∷◌, ◌++◌, length, ◌==◌, nat_le, nat_lt, slice_index, slice_set}
+use Rattle.std.specs.Prelude.{ℕ, zero, suc, ◌+◌, ◌-◌, ◌*◌, min, Bool, true, cond, not, ◌&&◌, List, [], ◌∷◌, ◌++◌, length, ◌==◌, nat_le, nat_lt, slice_index, slice_set}
 use Rattle.classes.specs.Rows.{find_del}
 use Rattle.definition.specs.Base.{without, sum_to}
 use Rattle.definition.specs.State.{Phase, Absent, Resting, DelOpen, Taking, Draining, Calling, Freeing, Leaving, State, is_resting, is_open}
-use Rattle.definition.specs.Changes.{with_phase, with_places, with_callback, with_weak, with_cached, with_strong, with_held, with_giving, with_unfreed, with_turns, with_stack, erased}
+use Rattle.definition.specs.Changes.{with_phase, with_places, with_callback, with_weak, with_cached, with_strong, with_held, with_giving, with_turns, with_stack, erased}
 
 -- ---- counts
 

@@ -1,12 +1,12 @@
 -- What changes nothing: the questions, tracing, and the downcasts.
-use Rattle.std.specs.Prelude.{ℕ, suc, ◌+◌, Bool, true, false, cond, not, ◌&&◌, ◌||◌, List, [], ◌∷◌, ◌++◌, length, take, drop, Some, None, Ok, Err, Option, Result, ◌==◌, nat_eq, nat_lt}
+use Rattle.std.specs.Prelude.{ℕ, suc, Bool, cond, not, ◌&&◌, List, [], ◌∷◌, ◌++◌, length, take, drop, Some, None, Ok, Err, Option, Result, ◌==◌, nat_eq, nat_lt}
 use Rattle.refusal.specs.declared.Fault.{Fault}
 use Rattle.refusal.specs.declared.Refusal.TheVariants.{NoClass, BrokenClass, ListShort}
 use Rattle.refusal.specs.Numbers.{number}
 use Rattle.classes.specs.Rows.{known}
 use Rattle.definition.specs.Base.{those}
 use Rattle.definition.specs.State.{State}
-use Rattle.definition.specs.Refusals.{Ground, first_met, at_argument, at_none, Argument, Names, Gives, Plain, naming}
+use Rattle.definition.specs.Refusals.{first_met, at_argument, at_none, Argument, Names, Gives, Plain, naming}
 use Rattle.definition.specs.Calls.{HandBack, refusal}
 
 abbrev pub unless_refused : {A : Type 0} → Option Fault → A → Result A Fault

@@ -1,8 +1,8 @@
 -- How a call is refused: the grounds in their order, each with the leftmost argument that offends.
-use Rattle.std.specs.Prelude.{ℕ, zero, suc, ◌+◌, ◌-◌, Bool, true, false, cond, not, ◌&&◌, ◌||◌, List, [], ◌∷◌, map, Some, None, Option, ◌==◌, nat_le, nat_lt}
+use Rattle.std.specs.Prelude.{ℕ, suc, ◌-◌, Bool, false, cond, not, ◌&&◌, List, [], ◌∷◌, map, Some, None, Option, ◌==◌, nat_le, nat_lt}
 use Rattle.refusal.specs.declared.Fault.{Fault}
 use Rattle.refusal.specs.declared.Refusal.{Refusal}
-use Rattle.refusal.specs.declared.Refusal.TheVariants.{NoSuch, Dying, NotYours, CountFull, NoRoom, BirthsSpent}
+use Rattle.refusal.specs.declared.Refusal.TheVariants.{NoSuch, Dying, NotYours}
 use Rattle.definition.specs.Base.{put}
 use Rattle.definition.specs.State.{State, is_unfreed, is_live}
 

@@ -1,5 +1,5 @@
 -- The state of a core: what each object has, as functions of its birth, and the deaths under way as a stack.
-use Rattle.std.specs.Prelude.{ℕ, Bool, true, false, List, [], ◌∷◌}
+use Rattle.std.specs.Prelude.{ℕ, Bool, true, false, List}
 use Rattle.classes.specs.Rows.{Class}
 
 -- Where an object stands between its making and its free:

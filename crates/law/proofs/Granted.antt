@@ -1,13 +1,12 @@
 -- What is so when a call is not refused.
-use Rattle.std.proofs.Common.{◌≡◌, ℕ, zero, suc, ◌+◌, ◌-◌, ◌<◌, ◌≤◌, Bool, true, false, cond, not, ◌&&◌, ◌||◌, eqb, ltb, leb, ◌⊎◌, List, [], ◌∷◌, ◌++◌, map, Some, None, Option, sym, refl, ap, ◌∙◌, subst, inl, inr, arith}
-use Rattle.std.specs.List.{AllByRecursion as All}
-use Rattle.std.proofs.lemmas.Bool.{eqb-true, eqb-false, eq-eqb, ne_eqb, cases_eq, cases_Bool, and_parts, and_cases, and_left, not-true, not-false, cond_both, cond-true}
-use Rattle.refusal.specs.declared.Fault.{Fault}
-use Rattle.definition.specs.Base.{put, count}
+use Rattle.std.proofs.Common.{◌≡◌, ℕ, zero, suc, ◌+◌, ◌-◌, ◌<◌, ◌≤◌, Bool, true, false, not, ◌&&◌, eqb, ◌⊎◌, List, [], ◌∷◌, map, Some, None, refl, ap, inl, inr, arith}
+use Rattle.std.proofs.lemmas.Bool.{eqb-true, eqb-false, eq-eqb, ne_eqb, cases_eq, and_cases, not-false, cond_both}
+use Rattle.refusal.specs.declared.Refusal.TheVariants.{NoSuch, Dying, NotYours}
+use Rattle.definition.specs.Base.{count}
 use Rattle.definition.specs.State.{Phase, Absent, Resting, DelOpen, Taking, Draining, Calling, Freeing, Leaving, State, is_unfreed, is_live}
-use Rattle.definition.specs.Refusals.{Ground, first_met, leftmost, at_leftmost, Argument, Plain, Names, Gives, Stores, no_such, not_live, dying, taken, past, taken_all, naming}
-use Rattle.definition.specs.Calls.{Call, arguments, own_grounds, grounds, refusal}
-use Rattle.definition.proofs.Sums.{same, count_cons, count_other}
+use Rattle.definition.specs.Refusals.{Ground, first_met, leftmost, at_leftmost, Argument, Plain, Names, Gives, Stores, no_such, not_live, dying, taken, past, taken_all}
+use Rattle.definition.specs.Calls.{Call, arguments, own_grounds, refusal}
+use Rattle.definition.proofs.Sums.{count_cons}
 
 -- ---- no ground is met
 
@@ -43,9 +42,11 @@ not_left n e = eqb-true n 0 (not-false (eqb n 0) e)
 pub granted : (c : Call) (s : State) → refusal c s ≡ None → Granted c s
 unfolding refusal
 granted c s e =
-    let a = first_none (at_leftmost _ (map (no_such s) (arguments c))) _ e in
-    let b = first_none (at_leftmost _ (map (dying s) (arguments c))) _ a.1 in
-    let d = first_none (at_leftmost _ (past s.handles (arguments c))) _ b.1 in
+    let lives = at_leftmost Dying (map (dying s) (arguments c)) in
+    let owns = at_leftmost NotYours (past s.handles (arguments c)) in
+    let a = first_none (at_leftmost NoSuch (map (no_such s) (arguments c))) (lives ∷ owns ∷ own_grounds c s) e in
+    let b = first_none lives (owns ∷ own_grounds c s) a.1 in
+    let d = first_none owns (own_grounds c s) b.1 in
     record {
       named = none_left 0 (map (no_such s) (arguments c)) (not_left _ a.0);
       living = none_left 0 (map (dying s) (arguments c)) (not_left _ b.0);

@@ -1,14 +1,12 @@
 -- What holds of every object between any two steps.
-use Rattle.std.proofs.Common.{◌≡◌, ℕ, zero, suc, ◌+◌, ◌-◌, ◌*◌, ◌<◌, ◌≤◌, min, Bool, true, false, cond, not, ◌&&◌, eqb, ltb, ◌⊎◌, List, [], ◌∷◌, ◌++◌, length, get_or, take, set, sym, refl, ap, ◌∙◌, subst, inl, inr, arith}
-use Rattle.std.proofs.lemmas.Bool.{eqb-true, eqb-false, eq-eqb, ne_eqb, cases_eq, cases_lt, and_parts, not-true, both_ways, ltb-true, ltb-false, cond_both}
+use Rattle.std.proofs.Common.{◌≡◌, ℕ, zero, suc, ◌+◌, ◌-◌, ◌<◌, ◌≤◌, Bool, true, false, cond, not, ◌&&◌, eqb, ◌⊎◌, List, [], ◌∷◌, length, take, refl, ap, inl, inr, arith}
+use Rattle.std.proofs.lemmas.Bool.{eqb-true, eq-eqb, ne_eqb, cases_eq, cases_lt, and_parts, both_ways, ltb-true, ltb-false}
 use Rattle.classes.specs.Rows.{Class, class_at}
 use Rattle.definition.specs.Base.{put, bit, count, sum_to}
 use Rattle.definition.specs.State.{Phase, Absent, Resting, DelOpen, Taking, Draining, Calling, Freeing, Leaving, State, is_unfreed, is_live, is_resting, is_open}
-use Rattle.definition.specs.Changes.{with_phase, with_strong, with_turns, with_stack}
-use Rattle.definition.specs.Death.{less, spent, found, pushed, opened, del_opens, clearing_begins, give_up}
-use Rattle.definition.proofs.Sums.{same, point, sum_same, sum_point, sum_put, term_le_sum}
+use Rattle.definition.specs.Death.{less, spent, found, pushed, del_opens, clearing_begins, give_up}
+use Rattle.definition.proofs.Sums.{same, point, sum_put}
 use Rattle.definition.proofs.Advance.{is_dying, give_up_cases}
-use Rattle.definition.proofs.Work.{Ordered, Tidy}
 use Rattle.law.specs.Law.{del_turn}
 
 -- how many of the list are names

@@ -1,12 +1,12 @@
 -- References go from one holder to another: nobody's count changes.
-use Rattle.std.proofs.Common.{◌≡◌, ℕ, zero, suc, ◌+◌, ◌-◌, ◌*◌, ◌<◌, ◌≤◌, min, Bool, true, false, cond, not, ◌&&◌, eqb, ◌⊎◌, List, [], ◌∷◌, ◌++◌, length, get_or, take, set, sym, refl, ap, ◌∙◌, subst, inl, inr, arith}
-use Rattle.std.proofs.lemmas.Bool.{eq-eqb, ne_eqb, cases_eq, cases_lt}
+use Rattle.std.proofs.Common.{◌≡◌, ℕ, zero, suc, ◌+◌, ◌*◌, ◌<◌, ◌≤◌, min, false, eqb, ◌⊎◌, List, [], ◌∷◌, length, refl, ap, inl, inr, arith}
+use Rattle.std.proofs.lemmas.Bool.{ne_eqb, cases_eq}
 use Rattle.definition.specs.Base.{put, bit, count, sum_to}
-use Rattle.definition.specs.State.{Phase, Absent, Resting, DelOpen, Taking, Draining, Calling, Freeing, Leaving, State, is_unfreed, is_live, is_open}
-use Rattle.definition.specs.Changes.{with_phase, with_places, with_callback, with_weak, with_cached, with_strong, with_held, with_giving, with_turns}
+use Rattle.definition.specs.State.{Phase, Absent, Resting, DelOpen, Taking, Draining, Calling, Freeing, Leaving, State, is_unfreed, is_open}
+use Rattle.definition.specs.Changes.{with_phase, with_places, with_callback, with_weak, with_cached, with_held, with_giving, with_turns}
 use Rattle.definition.specs.Death.{more}
-use Rattle.definition.proofs.Sums.{same, point, sum_same, sum_point, sum_le, count_cons, count_other, count_length}
-use Rattle.law.proofs.Invariant.{Falling, emptied, Left, Good, placed_by, lent_by, placed, lent, empty, GoodAt, zero_has, unfreed_sum, Framed, Inv, between, live_born, alive, phase_frame, retold}
+use Rattle.definition.proofs.Sums.{same, point, sum_point, sum_le, count_cons, count_other, count_length}
+use Rattle.law.proofs.Invariant.{Falling, emptied, Left, Good, placed_by, lent_by, placed, lent, GoodAt, unfreed_sum, Inv, phase_frame, retold}
 
 -- ---- sums at one object
 

@@ -1,15 +1,15 @@
 -- Each step of a death keeps the invariant.
-use Rattle.std.proofs.Common.{◌≡◌, ℕ, zero, suc, ◌+◌, ◌-◌, ◌*◌, ◌<◌, ◌≤◌, Bool, true, false, cond, not, ◌&&◌, eqb, ◌⊎◌, List, [], ◌∷◌, ◌++◌, length, get_or, take, set, sym, refl, ap, ◌∙◌, subst, inl, inr, arith, length-append}
-use Rattle.std.proofs.lemmas.Bool.{eqb-true, eqb-false, eq-eqb, ne_eqb, cases_eq, cases_lt, and_parts, not-true, cond_both}
+use Rattle.std.proofs.Common.{◌≡◌, ℕ, zero, suc, ◌+◌, ◌-◌, ◌<◌, ◌≤◌, true, false, cond, not, ◌&&◌, eqb, ◌⊎◌, List, [], ◌∷◌, ◌++◌, length, get_or, take, set, sym, refl, ap, ◌∙◌, subst, inl, inr, arith, length-append}
+use Rattle.std.proofs.lemmas.Bool.{eqb-false, ne_eqb, cases_eq, and_parts, not-true, cond_both}
 use Rattle.std.proofs.lemmas.List.{take_all}
 use Rattle.definition.specs.Base.{put, bit, count, without, sum_to}
-use Rattle.definition.specs.State.{Phase, Absent, Resting, DelOpen, Taking, Draining, Calling, Freeing, Leaving, State, is_unfreed, is_live, is_open}
-use Rattle.definition.specs.Changes.{with_phase, with_places, with_callback, with_weak, with_cached, with_strong, with_held, with_giving, with_turns, with_stack, erased}
+use Rattle.definition.specs.State.{Phase, Absent, Resting, DelOpen, Taking, Draining, Calling, Freeing, Leaving, State, is_unfreed, is_open}
+use Rattle.definition.specs.Changes.{with_phase, with_places, with_callback, with_weak, with_held, with_giving}
 use Rattle.definition.specs.Death.{more, spent, opened, uncached, takes, drains, unlisted, leaving, give_up, advance}
-use Rattle.definition.proofs.Sums.{same, point, sum_same, sum_point, term_le_sum, count_cons, count_append, count_here, count_other, count_set}
-use Rattle.definition.proofs.Advance.{is_dying, Top, Rounds, Cases, advance_cases}
-use Rattle.definition.proofs.Work.{Ordered, Tidy}
-use Rattle.law.proofs.Invariant.{Falling, filled, emptied, Left, Good, placed_by, lent_by, placed, lent, empty, GoodAt, zero_has, unfreed_sum, Framed, Inv, between, live_born, alive, phase_frame, not_spent, give_up_inv}
+use Rattle.definition.proofs.Sums.{same, point, sum_point, term_le_sum, count_cons, count_append, count_here, count_other, count_set}
+use Rattle.definition.proofs.Advance.{is_dying, Top, Rounds, advance_cases}
+use Rattle.definition.proofs.Work.{Tidy}
+use Rattle.law.proofs.Invariant.{Falling, filled, emptied, Left, Good, placed_by, lent_by, placed, lent, GoodAt, unfreed_sum, Inv, between, live_born, alive, phase_frame, not_spent, give_up_inv}
 use Rattle.law.proofs.Moves.{places_inv, callback_inv, held_inv, giving_inv, phase_inv, weak_inv, cached_inv, more_inv, no_callback_inv}
 
 -- ---- what is on the stack

@@ -1,7 +1,7 @@
 -- What happens between one moment and the next, told by what is so at each.
-use Rattle.std.specs.Prelude.{◌≡◌, ℕ, ◌<◌, Bool, true, false, not, ◌&&◌, ◌⊎◌, List, [], ◌∷◌}
+use Rattle.std.specs.Prelude.{◌≡◌, ℕ, ◌<◌, true, false, ◌⊎◌, List, [], ◌∷◌}
 use Rattle.definition.specs.Base.{count}
-use Rattle.definition.specs.State.{Phase, DelOpen, Calling, State, is_unfreed, is_live, is_resting, is_open}
+use Rattle.definition.specs.State.{DelOpen, Calling, State, is_unfreed, is_live, is_resting, is_open}
 use Rattle.law.specs.Run.{Step}
 
 -- ---- at a moment

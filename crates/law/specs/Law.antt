@@ -1,5 +1,5 @@
 -- The law of the core, over every run: nothing is lost and nothing is kept by mistake; how objects live and die; hand backs end.
-use Rattle.std.specs.Prelude.{◌≡◌, ℕ, suc, ◌+◌, ◌<◌, ◌≤◌, Bool, true, false, cond, not, ◌&&◌, ◌⊎◌, List, [], ◌∷◌, ◌++◌, map, Some, None, Ok, Err, MatchBool, Option, Result, ◌==◌, ◌≢◌}
+use Rattle.std.specs.Prelude.{◌≡◌, ℕ, ◌+◌, ◌<◌, ◌≤◌, true, false, not, ◌&&◌, ◌⊎◌, List, [], ◌∷◌, ◌++◌, map, Some, None, Ok, Err, MatchBool, Option, Result, ◌==◌, ◌≢◌}
 use Rattle.refusal.specs.declared.Fault.{Fault}
 use Rattle.classes.specs.Rows.{Class}
 use Rattle.definition.specs.Base.{bit, count, sum_to}
@@ -7,9 +7,9 @@ use Rattle.definition.specs.State.{Phase, DelOpen, State, is_unfreed, is_live, i
 use Rattle.definition.specs.Death.{found, rests}
 use Rattle.definition.specs.Calls.{Call, Upgrade, HandBack, Del, Callback, Asked, Turn, Reply, refusal}
 use Rattle.definition.specs.Opening.{can_open, opening}
-use Rattle.law.specs.Run.{What, Accepted, Refused, Small, Step, Exchange, run, end, history}
+use Rattle.law.specs.Run.{What, Accepted, Step, Exchange, run, end, history}
 use Rattle.law.specs.Tallies.{makes, frees, handles_given, handles_taken, interns, turns_shown, hand_backs}
-use Rattle.law.specs.Events.{Unfreed, Live, Cleared, Resting, Dying, NoTurnOf, Dies, Kept, Clears, Freed, Takes, Loses, Drained, OpensDel, OpensCall, Once, Never, Every, Newer, Watched}
+use Rattle.law.specs.Events.{Live, Cleared, Dying, NoTurnOf, Dies, Kept, Clears, Freed, Takes, Loses, Drained, OpensDel, OpensCall, Once, Never, Every, Newer, Watched}
 use Rattle.law.specs.Places.{Place, names, Named}
 
 -- ==== nothing lost, nothing kept

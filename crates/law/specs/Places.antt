@@ -1,8 +1,8 @@
 -- The places of objects that can name another.
-use Rattle.std.specs.Prelude.{◌≡◌, ℕ, suc, ◌+◌, Bool, true, false, cond, not, ◌&&◌, ◌⊎◌, List, [], ◌∷◌, Some, None, Option, ◌==◌, nat_lt, slice_index}
+use Rattle.std.specs.Prelude.{◌≡◌, ℕ, suc, ◌+◌, Bool, true, false, cond, not, ◌&&◌, ◌⊎◌, List, [], ◌==◌, nat_lt, slice_index}
 use Rattle.definition.specs.State.{State, is_unfreed}
 use Rattle.definition.specs.Calls.{Call, Make, Hold, Drop, Store, Swap, SetDictionary, Weaken, Upgrade, ListWeak, Intern, Attend, SetDel, HandBack, Reply}
-use Rattle.law.specs.Run.{What, Accepted, Refused, Small, Step}
+use Rattle.law.specs.Run.{What, Accepted, Refused, Small}
 use Rattle.law.specs.Events.{Cleared}
 
 pub data Place : Type 0 where

@@ -1,5 +1,5 @@
 -- A run: the calls made on a newly opened core, their answers, and the moments between, small steps included.
-use Rattle.std.specs.Prelude.{ℕ, zero, suc, Bool, cond, List, [], ◌∷◌, ◌++◌, Some, None, Option, Result}
+use Rattle.std.specs.Prelude.{ℕ, zero, suc, cond, List, [], ◌∷◌, ◌++◌, Some, None, Option, Result}
 use Rattle.refusal.specs.declared.Fault.{Fault}
 use Rattle.definition.specs.State.{State}
 use Rattle.definition.specs.Death.{advance, rests, work}

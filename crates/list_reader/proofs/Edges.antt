@@ -1,11 +1,11 @@
 -- Numbers read one after another.
-use Rattle.std.proofs.Common.{◌≡◌, ℕ, suc, List, [], ◌∷◌, ◌++◌, Some, None, Option, sym, ap, ◌∙◌, subst, append_assoc, Bor}
+use Rattle.std.proofs.Common.{◌≡◌, ℕ, suc, List, [], ◌∷◌, ◌++◌, Some, sym, ap, ◌∙◌, subst, append_assoc, Bor}
 use mathlib.Core.Path.{fun_ext}
 use Rattle.list_reader.specs.Calls.{Said, numbers}
 use Rattle.list_words.specs.Numbers.{number}
 use Rattle.list_words.specs.Words.{Yields}
 use Rattle.list_words.specs.declared.word.Word.{Word}
-use Rattle.list_words.specs.declared.word.Word.TheVariants.{Number, Other}
+use Rattle.list_words.specs.declared.word.Word.TheVariants.{Number}
 
 -- from `all` the numbers xs are read, k more may come, and the words ws are left
 abbrev pub Reads : ℕ → List (List ℕ) → List ℕ → ℕ → List (List ℕ) → Type 0

@@ -1,5 +1,5 @@
 -- What the reader's functions say of a line.
-use Rattle.std.specs.Prelude.{◌≡◌, ℕ, List, [], ◌∷◌, Ok, Err, vec_items, Result}
+use Rattle.std.specs.Prelude.{◌≡◌, ℕ, List, [], ◌∷◌, vec_items}
 use Rattle.list_reader.specs.Calls as calls
 use Rattle.list_reader.specs.Calls.{Said, Asks, Quotes, Short, one_number, no_more, numbers}
 use Rattle.list_words.specs.Pieces.{words}

@@ -1,4 +1,4 @@
-use Rattle.std.proofs.Common.{◌≡◌, ℕ, true, false, get_or, sym, ap, ◌∙◌, arith}
+use Rattle.std.proofs.Common.{◌≡◌, true, false, get_or, sym, ap, ◌∙◌, arith}
 use Rattle.classes.specs.Rows.{class_at, known}
 use Rattle.classes.proofs.Checks.{known_by, known_all}
 use Rattle.classes.proofs.good.knows_ancestors.Goals as goal

@@ -1,4 +1,4 @@
-use Rattle.std.proofs.Common.{◌≡◌, ℕ, List, sym, ◌∙◌}
+use Rattle.std.proofs.Common.{ℕ, List, ◌∙◌}
 use Rattle.std.proofs.lemmas.Result.{err_from_is_err_and}
 use Rattle.list_reader.specs.Calls.{Said, Asks, Weaken, one_number, no_more}
 use Rattle.list_reader.proofs.Telling.{tells_same}

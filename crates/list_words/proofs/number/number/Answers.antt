@@ -1,4 +1,4 @@
-use Rattle.std.proofs.Common.{◌≡◌, sym, ◌∙◌, arith, rules}
+use Rattle.std.proofs.Common.{sym, ◌∙◌, arith, rules}
 use Rattle.list_words.proofs.Reading.{reads_begins, reads_on, reads_stops, reads_ends}
 use Rattle.list_words.proofs.number.number.Goals as goal
 

@@ -1,4 +1,4 @@
-use Rattle.std.proofs.Common.{◌≡◌, ◌^◌, ◌<◌, drop}
+use Rattle.std.proofs.Common.{◌≡◌, drop}
 use Rattle.list_words.specs.Numbers.{number}
 use Rattle.list_words.proofs.Reading.{reads}
 use Rattle.list_words.proofs.number.number.Given as goal

@@ -1,10 +1,7 @@
 use native.Mathlib.Omega.{arith}
-use Prim.Native.Nat.{ℕ, ◌<◌}
 use mathlib.Core.Path.{◌≡◌, refl, sym, ap}
-use mathlib.Core.List.{List}
-use mathlib.Core.Logic.{◌⊎◌, ⊎_elim}
-use lib.ListN.{length}
-use Rattle.classes.specs.Rows.{Class, class_at, find_del}
+use mathlib.Core.Logic.{⊎_elim}
+use Rattle.classes.specs.Rows.{class_at, find_del}
 use Rattle.classes.proofs.Numbered.{class_at_past, no_del}
 use Rattle.class_tables.proofs.Meant.{length_rows}
 use Rattle.class_settled.specs.Table.{settled_rows}

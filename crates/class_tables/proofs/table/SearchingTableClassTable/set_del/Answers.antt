@@ -1,4 +1,4 @@
-use Rattle.std.proofs.Common.{◌≡◌, true, false, sym, refl, ap, ◌∙◌, inl, inr, arith}
+use Rattle.std.proofs.Common.{◌≡◌, true, false, sym, ap, ◌∙◌, inl, inr, arith}
 use Rattle.classes.specs.Rows.{Class, class_at, known}
 use Rattle.classes.proofs.Settings.{unknown_reply, unknown_after, fixed_reply, fixed_after, set_reply, set_after}
 use Rattle.class_tables.specs.Kept.{rows_of}

@@ -1,4 +1,4 @@
-use Rattle.std.proofs.Common.{◌≡◌, ℕ, ◌-◌, List, ◌++◌, length, get_or, replicate, refl, ap, ◌∙◌, arith, length-set}
+use Rattle.std.proofs.Common.{ℕ, ◌-◌, List, ◌++◌, length, get_or, replicate, refl, ap, ◌∙◌, arith, length-set}
 use Rattle.class_tables.proofs.Eights.{take_kept, copied_more}
 use Rattle.class_tables.proofs.types.Ancestors.new.Goals as goal
 

@@ -1,5 +1,4 @@
-use Rattle.std.proofs.Common.{arith, rules}
-use Rattle.std.proofs.lemmas.Bool.{eqb-true}
+use Rattle.std.proofs.Common.{rules}
 use Rattle.list_words.proofs.Joins.{lines_none}
 use Rattle.list_words.proofs.lines.Lines.next_line.Goals as goal
 
