@@ -1,6 +1,6 @@
 -- What the layer remembers.
 use Rattle.std.specs.Prelude.{◌≡◌, ℕ, ◌+◌, ◌%◌, cond, List, [], ◌∷◌, replicate, Some, None, Option, ◌==◌, slice_set}
-use Rattle.std.specs.List.{AllByRecursion as All}
+use Rattle.std.specs.List.{AllByRecursion}
 use Rattle.classes.specs.Rows.{Class, find_del}
 use Rattle.class_layer.specs.declared.types.Answer.{Answer}
 use Rattle.class_layer.specs.declared.types.Answers.{Answers}
@@ -25,7 +25,7 @@ after_question None a c r = with_answer a c r
 
 -- each answer that is kept is find del's over these rows
 abbrev pub Right : List Class → List Answer → Type 0
-Right rows kept = All (λ a. a.del ≡ find_del rows a.class) kept
+Right rows kept = AllByRecursion (λ a. a.del ≡ find_del rows a.class) kept
 
 -- what a layer keeps true of itself, over a table that means rows and keeps something true itself
 pub record SoundOver {T : Type 0} (rows : T → List Class) (sound : T → Type 0) (layer : Remembering T) : Type 0 where

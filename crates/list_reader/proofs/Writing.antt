@@ -5,7 +5,7 @@ use Rattle.std.proofs.lemmas.Str.Parse.{IsNumeralModel, numerals_by_fold}
 use Rattle.std.proofs.lemmas.Bool.{lt-ltb, leb-true, and_parts}
 use Rattle.std.proofs.ByRecursion.{All-append}
 use Rattle.std.proofs.lemmas.List.{append-nil}
-use Rattle.std.specs.List.{AllByRecursion as All}
+use Rattle.std.specs.List.{AllByRecursion}
 use Rattle.list_words.specs.Numbers.{digit, digits, value, number}
 use Rattle.list_words.specs.Pieces.{lines, words, counted, ended, Without}
 use Rattle.list_words.proofs.Joins.{piece, last_word, split_again}
@@ -35,13 +35,13 @@ digits_apart s (d ∷ ds) l h =
 decimal_apart : (s n : ℕ) → s < 48 → Small n → Without s (decimal n)
 decimal_apart s n l h = digits_apart s (decimal n) l (digits_decimal own n (omega arith))
 
-words_spaced : (w ns : List ℕ) → Without 32 w → All Small ns → words (w ++ spaced ns) ≡ w ∷ map decimal ns
+words_spaced : (w ns : List ℕ) → Without 32 w → AllByRecursion Small ns → words (w ++ spaced ns) ≡ w ∷ map decimal ns
 words_spaced w [] h small = rw append-nil (last_word 32 w h)
 words_spaced w (n ∷ ns) h small =
     piece 32 ([] ∷ []) w (decimal n ++ spaced ns) h ∙ ap (λ (ws : List (List ℕ)). w ∷ ws) (words_spaced (decimal n) ns (decimal_apart 32 n (omega arith) small.0) small.1)
 
 -- ---- numbers
-numbers_back : (most : ℕ) (ns : List ℕ) (then : List ℕ → Said) → length ns ≤ most → All Small ns → numbers most (map decimal ns) then ≡ then ns
+numbers_back : (most : ℕ) (ns : List ℕ) (then : List ℕ → Said) → length ns ≤ most → AllByRecursion Small ns → numbers most (map decimal ns) then ≡ then ns
 numbers_back zero [] then l h = refl
 numbers_back (suc most) [] then l h = refl
 numbers_back zero (n ∷ ns) then l h = absurd (omega arith)
@@ -51,7 +51,7 @@ numbers_back (suc most) (n ∷ ns) then l h = rw (number_decimal n h.0) (numbers
 not_32 : (c : ℕ) → 32 < c → Without 32 (c ∷ [])
 not_32 c h = (λ e. absurd (omega (arith, e)), tt)
 
-back : (c : ℕ) (ns : List ℕ) → 32 < c → All Small ns → says (c ∷ spaced ns) ≡ by_words ((c ∷ []) ∷ map decimal ns)
+back : (c : ℕ) (ns : List ℕ) → 32 < c → AllByRecursion Small ns → says (c ∷ spaced ns) ≡ by_words ((c ∷ []) ∷ map decimal ns)
 back c ns h small = ap by_words (words_spaced (c ∷ []) ns (not_32 c h) small)
 
 calls_back : (call : Call) → Fits call → says (written call) ≡ Asks call
@@ -69,11 +69,11 @@ calls_back (Intern object) f = back 105 (object ∷ []) (omega arith) (f, tt) �
 calls_back (HandBack turn) f = back 98 (turn ∷ []) (omega arith) (f, tt) ∙ rw (number_decimal turn f) refl
 
 -- ---- a whole list
-spaced_apart : (ns : List ℕ) → All Small ns → Without 10 (spaced ns)
+spaced_apart : (ns : List ℕ) → AllByRecursion Small ns → Without 10 (spaced ns)
 spaced_apart [] h = tt
 spaced_apart (n ∷ ns) h = (λ e. absurd (omega (arith, e)), All-append (λ b. b ≡ 10 → ⊥) (decimal n) (spaced ns) (decimal_apart 10 n (omega arith) h.0) (spaced_apart ns h.1))
 
-line_apart : (c : ℕ) (ns : List ℕ) → 32 < c → All Small ns → Without 10 (c ∷ spaced ns)
+line_apart : (c : ℕ) (ns : List ℕ) → 32 < c → AllByRecursion Small ns → Without 10 (c ∷ spaced ns)
 line_apart c ns l h = (λ e. absurd (omega (arith, e)), spaced_apart ns h)
 
 written_apart : (call : Call) → Fits call → Without 10 (written call)
@@ -87,11 +87,11 @@ written_apart (Upgrade reference) f = line_apart 117 (reference ∷ []) (omega a
 written_apart (Intern object) f = line_apart 105 (object ∷ []) (omega arith) (f, tt)
 written_apart (HandBack turn) f = line_apart 98 (turn ∷ []) (omega arith) (f, tt)
 
-all_apart : (calls : List Call) → All Fits calls → All (Without 10) (map written calls)
+all_apart : (calls : List Call) → AllByRecursion Fits calls → AllByRecursion (Without 10) (map written calls)
 all_apart [] f = tt
 all_apart (c ∷ cs) f = (written_apart c f.0, all_apart cs f.1)
 
-all_back : (calls : List Call) → All Fits calls → map says (map written calls) ≡ map Asks calls
+all_back : (calls : List Call) → AllByRecursion Fits calls → map says (map written calls) ≡ map Asks calls
 all_back [] f = refl
 all_back (c ∷ cs) f = ap (λ (x : Said). x ∷ map says (map written cs)) (calls_back c f.0) ∙ ap (λ (xs : List Said). Asks c ∷ xs) (all_back cs f.1)
 

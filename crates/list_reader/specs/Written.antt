@@ -1,6 +1,6 @@
 -- A list written out, and read back.
 use Rattle.std.specs.Prelude.{◌≡◌, ℕ, ◌^◌, ◌<◌, ◌≤◌, cond, List, [], ◌∷◌, ◌++◌, map, length, decimal}
-use Rattle.std.specs.List.{AllByRecursion as All}
+use Rattle.std.specs.List.{AllByRecursion}
 use Rattle.list_words.specs.Pieces.{ended}
 use Rattle.list_reader.specs.Calls.{Call, Attend, Make, Hold, Drop, Weaken, Upgrade, Intern, HandBack, Said, Asks}
 
@@ -26,7 +26,7 @@ Small n = n < 2 ^ 32
 -- the numbers of a call fit 32 bits, and its edges are 8 at most
 abbrev pub Fits : Call → Type 0
 Fits (Attend host) = Unit {0}
-Fits (Make class dictionary edges) = Small class × Small dictionary × All Small edges × (length edges ≤ 8)
+Fits (Make class dictionary edges) = Small class × Small dictionary × AllByRecursion Small edges × (length edges ≤ 8)
 Fits (Hold object) = Small object
 Fits (Drop object) = Small object
 Fits (Weaken class object callback) = Small class × Small object × Small callback
@@ -36,4 +36,4 @@ Fits (HandBack turn) = Small turn
 
 -- a list that is calls written out one a line, within the bytes that count, says those calls
 abbrev pub ListBack : List ℕ → List Said → Type 0
-ListBack list said = (calls : List Call) → All Fits calls → list ≡ ended (map written calls) → length list ≤ 65536 → said ≡ map Asks calls
+ListBack list said = (calls : List Call) → AllByRecursion Fits calls → list ≡ ended (map written calls) → length list ≤ 65536 → said ≡ map Asks calls

@@ -2,7 +2,7 @@
 use Rattle.std.proofs.Common.{◌≡◌, ℕ, ◌≤◌, List, [], ◌∷◌, ◌++◌, length, sym, refl, ap, ◌∙◌, append_assoc}
 use Rattle.std.proofs.lemmas.List.{take_all, nil_from_length}
 use Rattle.std.proofs.lemmas.Bool.{eq-eqb, ne_eqb}
-use Rattle.std.specs.List.{AllByRecursion as All}
+use Rattle.std.specs.List.{AllByRecursion}
 use Rattle.list_words.specs.Pieces.{joined, pieces, lines, counted, ended, final, Without, SplitAgain}
 
 pub lines_short : (bs : List ℕ) → length bs ≤ 65536 → lines bs ≡ lines (counted bs)
@@ -24,7 +24,7 @@ last_line [] h = refl
 last_line (b ∷ []) h = rw (ne_eqb b 10 h.0) refl
 last_line (b ∷ c ∷ w) h = rw (ne_eqb b 10 h.0) (ap (joined b) (last_line (c ∷ w) h.1))
 
-lines_ended : (ls : List (List ℕ)) (last : List ℕ) → All (Without 10) ls → Without 10 last → lines (ended ls ++ last) ≡ ls ++ final last
+lines_ended : (ls : List (List ℕ)) (last : List ℕ) → AllByRecursion (Without 10) ls → Without 10 last → lines (ended ls ++ last) ≡ ls ++ final last
 lines_ended [] last h hl = last_line last hl
 lines_ended (l ∷ ls) last h hl =
     ap lines (append_assoc l (10 ∷ ended ls) last) ∙ piece 10 [] l (ended ls ++ last) h.0 ∙ ap (λ (ws : List (List ℕ)). l ∷ ws) (lines_ended ls last h.1 hl)

@@ -1,7 +1,7 @@
 -- The lines of a list and the words of a line.
 use Rattle.std.specs.Prelude.{◌≡◌, ℕ, suc, ◌<◌, ◌≤◌, cond, List, [], ◌∷◌, ◌++◌, length, take, Some, None, Option, ◌==◌, ◌≢◌}
 use Rattle.std.specs.Borrow.{Bor}
-use Rattle.std.specs.List.{AllByRecursion as All}
+use Rattle.std.specs.List.{AllByRecursion}
 
 -- the byte in front of the first piece
 abbrev pub joined : ℕ → List (List ℕ) → List (List ℕ)
@@ -46,9 +46,9 @@ final [] = []
 final (b ∷ bs) = (b ∷ bs) ∷ []
 
 abbrev pub Without : ℕ → List ℕ → Type 0
-Without separator bs = All (λ b. b ≢ separator) bs
+Without separator bs = AllByRecursion (λ b. b ≢ separator) bs
 
 -- lines that hold no newline, joined by newlines, are split into those lines again
 abbrev pub SplitAgain : List ℕ → List (List ℕ) → Type 0
 SplitAgain bs split =
-    (ls : List (List ℕ)) (last : List ℕ) → All (Without 10) ls → Without 10 last → bs ≡ ended ls ++ last → length bs ≤ 65536 → split ≡ ls ++ final last
+    (ls : List (List ℕ)) (last : List ℕ) → AllByRecursion (Without 10) ls → Without 10 last → bs ≡ ended ls ++ last → length bs ≤ 65536 → split ≡ ls ++ final last

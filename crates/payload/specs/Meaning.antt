@@ -1,6 +1,6 @@
 -- What a payload means.
 use Rattle.std.specs.Prelude.{ℕ, ◌^◌, ◌<◌, ◌≤◌, Bool, List, length, slice_set}
-use Rattle.std.specs.List.{AllByRecursion as All}
+use Rattle.std.specs.List.{AllByRecursion}
 
 -- a kind, whether it is traced, and its edges, each a birth or 0 for none
 pub record Meaning : Type 0 where
@@ -12,7 +12,7 @@ pub record Meaning : Type 0 where
 pub record Proper (m : Meaning) : Type 0 where
   pub above : 1 < m.kind
   pub few : length m.edges ≤ 8
-  pub names : All (λ e. e < 2 ^ 32) m.edges
+  pub names : AllByRecursion (λ e. e < 2 ^ 32) m.edges
 
 -- the meaning with one edge replaced; beyond the width nothing is
 abbrev pub with_edge : Meaning → ℕ → ℕ → Meaning
