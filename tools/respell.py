@@ -4,21 +4,18 @@
 usage: python3 tools/respell.py [--dry]     at the top of the repository
 
 A name with dashes that this repository declares is respelled wherever it stands in a file of specs/, proofs/ or src/,
-comments aside. Names that the checker makes (goals, invariants, measures) keep their dashes. The script stops, and
-changes nothing, where two names fall together; it says where a definition gets the name of a function of src/, as
-find_del does: a definition of what a function gives may have its name.
+comments aside. Names that the checker makes (goals, invariants, measures) keep their dashes; it can be run again. It
+stops, and changes nothing, where two names fall together. It says where a definition gets the name of a function of
+src/, as find_del does: a definition of what a function gives may have its name.
 """
 
 import os
 import re
 import sys
 
-MADE = re.compile(r"^(returns|loop|invariant|decreases|overflow|bounds|slice_bounds|Inv|prove)-")
-# a lemma about a fact keeps the fact's capital and the dash behind it
-KEPT = {"All-false"}
+MADE = re.compile(r"^(returns|loop|invariant|invariant-of|invariant_of|decreases|overflow|bounds|slice_bounds|Inv|prove)-")
 EDGE = r"\s(){},;.\[\]"
-DECLARED = re.compile(r"^(?:(?:pub|abbrev|unfoldable|record|data)\s+)*([^\s:(){}.]+)\s+:(?:\s|$)")
-FIELD = re.compile(r"^\s+pub\s+([^\s:(){}.]+)\s+:")
+DECLARED = re.compile(r"^\s*(?:(?:pub|abbrev|unfoldable|record|data)\s+)*([^\s:(){}.]+)\s+:(?:\s|$)")
 TYPE = re.compile(r"^(?:pub )?(?:data|record)\s+(\S+)")
 
 
@@ -34,7 +31,7 @@ def declared(text):
     for line in text.splitlines():
         if line.startswith(("use ", "--", "pub mod", "mod ", "unfolding")):
             continue
-        for form in (DECLARED, FIELD, TYPE):
+        for form in (DECLARED, TYPE):
             m = form.match(line)
             if m:
                 yield m.group(1)
@@ -59,7 +56,7 @@ def main():
             texts[path] = f.read()
     every = {n for p, t in texts.items() if p.endswith(".antt") for n in declared(t)}
     functions = {m for p, t in texts.items() if p.endswith(".rt") for m in re.findall(r"\bfn (\w+)", t)}
-    names = {n: respelled(n) for n in every if "-" in n and not MADE.match(n) and n not in KEPT}
+    names = {n: respelled(n) for n in every if "-" in n and not MADE.match(n)}
     taken = {}
     clashes = []
     for old, new in sorted(names.items()):

@@ -15,11 +15,11 @@ module _ (n : ℕ) (first : List ℕ) (room : length first ≡ 8) where
   pub length_kept : length (take n first ++ replicate (n - 8) 0) ≡ n
   length_kept = simp (length-append, length-take, length-replicate) (omega arith)
 
-  pub get_d_kept : (i : ℕ) → i < min n 8 → get_or (take n first ++ replicate (n - 8) 0) i 0 ≡ get_or first i 0
-  get_d_kept i h = get_or_append_left (take n first) (replicate (n - 8) 0) 0 i (simp length-take (omega arith)) ∙ get_or-take n first i 0 (omega arith)
+  pub get_or_kept : (i : ℕ) → i < min n 8 → get_or (take n first ++ replicate (n - 8) 0) i 0 ≡ get_or first i 0
+  get_or_kept i h = get_or_append_left (take n first) (replicate (n - 8) 0) 0 i (simp length-take (omega arith)) ∙ get_or-take n first i 0 (omega arith)
 
-  pub get_d_beyond : (i : ℕ) → min n 8 ≤ i → get_or (take n first ++ replicate (n - 8) 0) i 0 ≡ 0
-  get_d_beyond i h =
+  pub get_or_beyond : (i : ℕ) → min n 8 ≤ i → get_or (take n first ++ replicate (n - 8) 0) i 0 ≡ 0
+  get_or_beyond i h =
       let e : length (take n first) ≡ min n 8 = simp length-take (omega arith) in
       get_or-append_right (take n first) (replicate (n - 8) 0) (min n 8) i 0 e h ∙ zeros (n - 8) (i - min n 8)
 

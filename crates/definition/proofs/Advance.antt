@@ -67,25 +67,25 @@ pub record Cases (s : State) (P : State → Type 0) : Type 0 where
   pub frees : (o : ℕ) (below : List ℕ) → Top s o below → s.giving o ≡ [] → s.phase o ≡ Leaving → P (leaving o below s)
 
 module _ (s : State) (P : State → Type 0) (c : Cases s P) (o : ℕ) (below : List ℕ) (top : Top s o below) (gv : s.giving o ≡ []) where
-  ends-case : Rounds s o → (l : List ℕ) → s.held o ≡ l → (s.weak o ≡ []) ⊎ (0 < length l) → P (round_ends l o s)
-  ends-case r [] hd (inl wk) = c.clears o below top gv r hd wk
-  ends-case r [] hd (inr h) = absurd (omega arith)
-  ends-case (inl ph) (w ∷ ws) hd e = c.completes o below top gv ph w ws hd
-  ends-case (inr d) (w ∷ ws) hd e = let z : ◌≡◌ {A = ℕ} (length (s.held o)) 0 = ap length d.1 in absurd (omega (arith, ap length hd))
+  ends_case : Rounds s o → (l : List ℕ) → s.held o ≡ l → (s.weak o ≡ []) ⊎ (0 < length l) → P (round_ends l o s)
+  ends_case r [] hd (inl wk) = c.clears o below top gv r hd wk
+  ends_case r [] hd (inr h) = absurd (omega arith)
+  ends_case (inl ph) (w ∷ ws) hd e = c.completes o below top gv ph w ws hd
+  ends_case (inr d) (w ∷ ws) hd e = let z : ◌≡◌ {A = ℕ} (length (s.held o)) 0 = ap length d.1 in absurd (omega (arith, ap length hd))
 
-  taking-case : Rounds s o → (l : List ℕ) → s.weak o ≡ l → P (taking l o s)
-  taking-case r [] wk = ends-case r (s.held o) refl (inl wk)
-  taking-case r (w ∷ ws) wk =
+  taking_case : Rounds s o → (l : List ℕ) → s.weak o ≡ l → P (taking l o s)
+  taking_case r [] wk = ends_case r (s.held o) refl (inl wk)
+  taking_case r (w ∷ ws) wk =
       cond_both (leb 16 (length (s.held o))) (round_ends (s.held o) o s) (death.takes w ws o s) P
-      (λ e. ends-case r (s.held o) refl (inr (omega (arith, leb-true 16 (length (s.held o)) e))))
+      (λ e. ends_case r (s.held o) refl (inr (omega (arith, leb-true 16 (length (s.held o)) e))))
       (λ e. c.takes o below top gv r w ws wk (leb-false 16 (length (s.held o)) e))
 
-  draining-case : s.phase o ≡ Draining → (l : List ℕ) → s.held o ≡ l → P (draining l o s)
-  draining-case ph [] hd = taking-case (inr (ph, hd)) (s.weak o) refl
-  draining-case ph (w ∷ ws) hd = c.drains o below top gv ph w ws hd
+  draining_case : s.phase o ≡ Draining → (l : List ℕ) → s.held o ≡ l → P (draining l o s)
+  draining_case ph [] hd = taking_case (inr (ph, hd)) (s.weak o) refl
+  draining_case ph (w ∷ ws) hd = c.drains o below top gv ph w ws hd
 
-  freeing-case : (k : ℕ) → s.phase o ≡ Freeing k → P (freeing k o s)
-  freeing-case k ph =
+  freeing_case : (k : ℕ) → s.phase o ≡ Freeing k → P (freeing k o s)
+  freeing_case k ph =
       cond_both (ltb k (length (s.places o)))
       (give_up (get_or (s.places o) k 0) (with_phase o (Freeing (suc k)) (with_places o (set (s.places o) k 0) s)))
       (give_up (s.callback o) (with_phase o Leaving (with_callback o 0 (unlisted o s)))) P
@@ -98,18 +98,18 @@ module _ (s : State) (P : State → Type 0) (c : Cases s P) (o : ℕ) (below : L
   waiting : is_open (s.phase o) ≡ true → P s
   waiting e = let z = both_ways (is_open (s.phase o)) top.moves e in absurd z
 
-  phase-case : (p : Phase) → s.phase o ≡ p → P (by_phase p o below s)
-  phase-case Absent ph = stuck (rw ph refl)
-  phase-case Resting ph = stuck (rw ph refl)
-  phase-case (DelOpen d) ph = waiting (rw ph refl)
-  phase-case Taking ph = taking-case (inl ph) (s.weak o) refl
-  phase-case Draining ph = draining-case ph (s.held o) refl
-  phase-case (Calling d w) ph = waiting (rw ph refl)
-  phase-case (Freeing k) ph = freeing-case k ph
-  phase-case Leaving ph = c.frees o below top gv ph
+  phase_case : (p : Phase) → s.phase o ≡ p → P (by_phase p o below s)
+  phase_case Absent ph = stuck (rw ph refl)
+  phase_case Resting ph = stuck (rw ph refl)
+  phase_case (DelOpen d) ph = waiting (rw ph refl)
+  phase_case Taking ph = taking_case (inl ph) (s.weak o) refl
+  phase_case Draining ph = draining_case ph (s.held o) refl
+  phase_case (Calling d w) ph = waiting (rw ph refl)
+  phase_case (Freeing k) ph = freeing_case k ph
+  phase_case Leaving ph = c.frees o below top gv ph
 
 going_case : (s : State) (P : State → Type 0) → Cases s P → (o : ℕ) (below : List ℕ) → Top s o below → (l : List ℕ) → s.giving o ≡ l → P (going_on l o below s)
-going_case s P c o below top [] gv = phase-case s P c o below top gv (s.phase o) refl
+going_case s P c o below top [] gv = phase_case s P c o below top gv (s.phase o) refl
 going_case s P c o below top (x ∷ xs) gv = c.gives o below top x xs gv
 
 top_case : (s : State) (P : State → Type 0) → Cases s P → (l : List ℕ) → s.stack ≡ l → P (on_top l s)

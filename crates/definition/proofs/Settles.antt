@@ -111,17 +111,17 @@ settled_step s t =
 
 frees_none : (s : State) (l : List ℕ) → waits l s ≡ true → frees_top l s ≡ []
 frees_none s [] e = refl
-frees_none s (o ∷ below) e = open-frees (s.phase o) e
+frees_none s (o ∷ below) e = open_frees (s.phase o) e
   where
-    open-frees : (p : Phase) → is_open p ≡ true → frees_by p (s.giving o) o ≡ []
-    open-frees Absent e = refl
-    open-frees Resting e = refl
-    open-frees (DelOpen c) e = refl
-    open-frees Taking e = refl
-    open-frees Draining e = refl
-    open-frees (Calling c w) e = refl
-    open-frees (Freeing k) e = refl
-    open-frees Leaving e = let z : ◌≡◌ {A = ℕ} 0 1 = cc in absurd (omega arith)
+    open_frees : (p : Phase) → is_open p ≡ true → frees_by p (s.giving o) o ≡ []
+    open_frees Absent e = refl
+    open_frees Resting e = refl
+    open_frees (DelOpen c) e = refl
+    open_frees Taking e = refl
+    open_frees Draining e = refl
+    open_frees (Calling c w) e = refl
+    open_frees (Freeing k) e = refl
+    open_frees Leaving e = let z : ◌≡◌ {A = ℕ} 0 1 = cc in absurd (omega arith)
 
 pub frees_at_rest : (s : State) → rests s ≡ true → frees s ≡ []
 unfolding frees

@@ -17,23 +17,23 @@ first_none g gs e = go g.met refl
     go true m = let w : Some (record { refusal = g.refusal; argument = g.argument }) ≡ None = rw m at e in let z : ◌≡◌ {A = ℕ} 0 1 = cc in absurd (omega arith)
     go false m = (m, rw m at e)
 
-abbrev pub All-false : List Bool → Type 0
-All-false [] = Unit {0}
-All-false (b ∷ bs) = (b ≡ false) × All-false bs
+abbrev pub AllFalse : List Bool → Type 0
+AllFalse [] = Unit {0}
+AllFalse (b ∷ bs) = (b ≡ false) × AllFalse bs
 
-none_left : (n : ℕ) (bs : List Bool) → leftmost (suc n) bs ≡ 0 → All-false bs
+none_left : (n : ℕ) (bs : List Bool) → leftmost (suc n) bs ≡ 0 → AllFalse bs
 none_left n [] e = tt
 none_left n (b ∷ bs) e = go b refl (none_left (suc n) bs)
   where
-    go : (c : Bool) → b ≡ c → (leftmost (suc (suc n)) bs ≡ 0 → All-false bs) → All-false (b ∷ bs)
+    go : (c : Bool) → b ≡ c → (leftmost (suc (suc n)) bs ≡ 0 → AllFalse bs) → AllFalse (b ∷ bs)
     go true q rest = let z : suc n ≡ 0 = rw q at e in absurd (omega arith)
     go false q rest = (q, rest (rw q at e))
 
 -- the conditions on names, and the call's own
 pub record Granted (c : Call) (s : State) : Type 0 where
-  pub named : All-false (map (no_such s) (arguments c))
-  pub living : All-false (map (dying s) (arguments c))
-  pub owned : All-false (past s.handles (arguments c))
+  pub named : AllFalse (map (no_such s) (arguments c))
+  pub living : AllFalse (map (dying s) (arguments c))
+  pub owned : AllFalse (past s.handles (arguments c))
   pub own : first_met (own_grounds c s) ≡ None
 
 not_left : (n : ℕ) → not (eqb n 0) ≡ false → n ≡ 0
@@ -112,7 +112,7 @@ stores_some h o e = go (and_cases (not (eqb o 0)) (eqb (h o) 0) e)
     go (inr q) = inr (gives_some h o q)
 
 -- each name's handle is taken over
-pub taken_counts : (as' : List Argument) (h : ℕ → ℕ) → All-false (past h as') → (y : ℕ) → 0 < y → taken_all as' h y + count y (handed_names as') ≡ h y
+pub taken_counts : (as' : List Argument) (h : ℕ → ℕ) → AllFalse (past h as') → (y : ℕ) → 0 < y → taken_all as' h y + count y (handed_names as') ≡ h y
 taken_counts [] h f y py = omega arith
 taken_counts (Plain ∷ as') h f y py = taken_counts as' h f.1 y py
 taken_counts (Names o ∷ as') h f y py = taken_counts as' h f.1 y py

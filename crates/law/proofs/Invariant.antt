@@ -217,9 +217,9 @@ module _ (s : State) (owed : List ℕ) (x : ℕ) (pos : 0 < x) (i : Inv s (x ∷
   off : eqb 0 x ≡ false
   off = ne_eqb 0 x (λ q. omega arith)
 
-  less-inv : (is_resting (s.phase x) && spent (less x s) x) ≡ false → Inv (less x s) owed
+  less_inv : (is_resting (s.phase x) && spent (less x s) x) ≡ false → Inv (less x s) owed
   unfolding placed lent
-  less-inv e =
+  less_inv e =
       record {
         good = point (λ y. 0 < y → GoodAt (less x s) owed y) x (λ py. rw (same x) (fewer (count x owed) here refl (stays (cases_lt 0 ((s.strong x - 1) + bit (s.interned x)))))) (λ y ne py. rw (ne_eqb y x ne) (other y ne py));
         zeroth = rw off i.zeroth;
@@ -234,9 +234,9 @@ module _ (s : State) (owed : List ℕ) (x : ℕ) (pos : 0 < x) (i : Inv s (x ∷
           let sp : spent (less x s) x ≡ true = rw (same x) (spent_from (s.strong x - 1) (s.interned x) (omega arith) (omega arith)) in
           absurd (both_ways (is_resting (s.phase x) && spent (less x s) x) e (rw (ph, sp) refl))
 
-  starts-inv : s.phase x ≡ Resting → spent (less x s) x ≡ true → Inv (del_opens x (found s x) (less x s)) owed × Inv (pushed x (clearing_begins x (less x s))) owed
+  starts_inv : s.phase x ≡ Resting → spent (less x s) x ≡ true → Inv (del_opens x (found s x) (less x s)) owed × Inv (pushed x (clearing_begins x (less x s))) owed
   unfolding placed lent
-  starts-inv ph sp =
+  starts_inv ph sp =
       let z = now_spent (s.strong x - 1) (s.interned x) (rw (same x) at sp) in
       let q : Good Resting (s.strong x) (bit (s.interned x)) (s.handles x) (placed s x) (lent s x) (suc (count x owed)) 0 (length (s.held x)) (length (s.giving x)) (count x s.stack) = rw ph at here in (
         record {
@@ -268,5 +268,5 @@ give_up_inv s owed x i = go (cases_eq x 0)
         let pos : 0 < x = omega arith in
         give_up_cases s x (λ t. Inv t owed)
         (λ lo. let h = ltb-false (s.handles x) (s.strong x) lo in absurd (omega (arith, here s owed x pos i)))
-        (λ lo e. less-inv s owed x pos i e)
-        (λ lo ph e. let r = starts-inv s owed x pos i ph e in (λ a. r.0, λ a. r.1))
+        (λ lo e. less_inv s owed x pos i e)
+        (λ lo ph e. let r = starts_inv s owed x pos i ph e in (λ a. r.0, λ a. r.1))

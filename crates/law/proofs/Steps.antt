@@ -136,22 +136,22 @@ module _ (s : State) (i : Inv s []) (o : ℕ) (below : List ℕ) (top : Top s o 
   lo : o < s.next
   lo = (on_top s [] i o below top.stack).1
 
-  gives-inv : (x : ℕ) (xs : List ℕ) → s.giving o ≡ x ∷ xs → Inv (give_up x (with_giving o xs s)) []
-  gives-inv x xs gv =
+  gives_inv : (x : ℕ) (xs : List ℕ) → s.giving o ≡ x ∷ xs → Inv (give_up x (with_giving o xs s)) []
+  gives_inv x xs gv =
       give_up_inv (with_giving o xs s) [] x
       (giving_inv s [] i o po lo xs (x ∷ []) (λ y py. rw gv (omega (arith, count_cons y x xs))) (shorter (length xs) (i.good o po) (rw gv (omega arith))))
 
-  completes-inv : s.phase o ≡ Taking → Inv (with_phase o Draining s) []
-  completes-inv ph = phase_inv s [] i o po lo Draining s.turns (let q = rw ph at (i.good o po) in omega arith) (rw ph refl) (rw ph refl)
+  completes_inv : s.phase o ≡ Taking → Inv (with_phase o Draining s) []
+  completes_inv ph = phase_inv s [] i o po lo Draining s.turns (let q = rw ph at (i.good o po) in omega arith) (rw ph refl) (rw ph refl)
 
-  clears-inv : Rounds s o → s.giving o ≡ [] → s.held o ≡ [] → Inv (with_phase o (Freeing 0) s) []
-  clears-inv (inl ph) gv hd = phase_inv s [] i o po lo (Freeing 0) s.turns (let q = rw (ph, hd, gv) at (i.good o po) in rw (hd, gv) (omega arith)) (rw ph refl) (rw ph refl)
-  clears-inv (inr d) gv hd = phase_inv s [] i o po lo (Freeing 0) s.turns (let q = rw (d.0, hd, gv) at (i.good o po) in rw (hd, gv) (omega arith)) (rw d.0 refl) (rw d.0 refl)
+  clears_inv : Rounds s o → s.giving o ≡ [] → s.held o ≡ [] → Inv (with_phase o (Freeing 0) s) []
+  clears_inv (inl ph) gv hd = phase_inv s [] i o po lo (Freeing 0) s.turns (let q = rw (ph, hd, gv) at (i.good o po) in rw (hd, gv) (omega arith)) (rw ph refl) (rw ph refl)
+  clears_inv (inr d) gv hd = phase_inv s [] i o po lo (Freeing 0) s.turns (let q = rw (d.0, hd, gv) at (i.good o po) in rw (hd, gv) (omega arith)) (rw d.0 refl) (rw d.0 refl)
 
   -- a round takes a reference off the list
-  takes-inv : s.giving o ≡ [] → Rounds s o → (w : ℕ) (rest : List ℕ) → s.weak o ≡ w ∷ rest → length (s.held o) < 16 → Inv (takes w rest o s) []
+  takes_inv : s.giving o ≡ [] → Rounds s o → (w : ℕ) (rest : List ℕ) → s.weak o ≡ w ∷ rest → length (s.held o) < 16 → Inv (takes w rest o s) []
   unfolding placed lent
-  takes-inv gv r w rest wk few =
+  takes_inv gv r w rest wk few =
       let i₁ = weak_inv (uncached w o s) [] (cached_inv s [] i o (cond (eqb (s.cached o) w) 0 (s.cached o))) o rest (falling_tail s.next w rest (rw wk at (i.lists o))) in
       let off = with_weak o rest (uncached w o s) in
       let i₂ : Inv (with_phase o Taking off) [] = phase_inv off [] i₁ o po lo Taking s.turns (good r) (unfreed r) (turn r) in
@@ -177,21 +177,21 @@ module _ (s : State) (i : Inv s []) (o : ℕ) (below : List ℕ) (top : Top s o 
 
   module _ (gv : s.giving o ≡ []) (ph : s.phase o ≡ Draining) (w : ℕ) (ws : List ℕ) (hd : s.held o ≡ w ∷ ws) where
     -- the callback of w is taken out
-    out-inv : (w ≡ 0) ⊎ (w ≡ 0 → ⊥) → Inv (with_callback w 0 s) (s.callback w ∷ [])
-    out-inv (inl q) = subst (λ v. Inv (with_callback v 0 s) (s.callback v ∷ [])) (sym q) (no_callback_inv s [] i)
-    out-inv (inr ne) =
+    out_inv : (w ≡ 0) ⊎ (w ≡ 0 → ⊥) → Inv (with_callback w 0 s) (s.callback w ∷ [])
+    out_inv (inl q) = subst (λ v. Inv (with_callback v 0 s) (s.callback v ∷ [])) (sym q) (no_callback_inv s [] i)
+    out_inv (inr ne) =
         let pw : 0 < w = omega arith in
         let b = between s [] i w (live_born (s.phase w) (alive (i.good w pw) (omega (arith, held_counted s [] i o lo w ws hd pw)))) in
         callback_inv s [] i w pw b.1 (no_callback (s.phase w) (s.places w) (s.callback w) (i.good w pw).gone)
 
     -- in a turn
-    called-inv : (s.attends && not (eqb (s.callback w) 0)) ≡ true → Inv (opened (with_phase o (Calling (s.callback w) w) (with_giving o (w ∷ s.callback w ∷ w ∷ []) (more w (with_held o ws (with_callback w 0 s)))))) []
-    called-inv e =
+    called_inv : (s.attends && not (eqb (s.callback w) 0)) ≡ true → Inv (opened (with_phase o (Calling (s.callback w) w) (with_giving o (w ∷ s.callback w ∷ w ∷ []) (more w (with_held o ws (with_callback w 0 s)))))) []
+    called_inv e =
         let c = s.callback w in
         let some : eqb c 0 ≡ false = not-true (eqb c 0) (and_parts s.attends (not (eqb c 0)) e).1 in
         let pw : 0 < w = positive some (cases_eq w 0) in
         let out = with_callback w 0 s in
-        let i₁ = out-inv (inr (λ q. omega arith)) in
+        let i₁ = out_inv (inr (λ q. omega arith)) in
         let i₂ = more_inv out (c ∷ []) i₁ w (omega arith) (omega (arith, held_counted s [] i o lo w ws hd pw)) in
         let q₂ = rw (ph, hd, gv) at (i₂.good o po).left in
         let i₃ = held_inv (more w out) (w ∷ c ∷ []) i₂ o po lo ws (w ∷ w ∷ c ∷ []) (λ y py. rw hd (omega (arith, count_cons y w ws, count_cons y w (w ∷ c ∷ []), count_cons y w (c ∷ [])))) (rw (ph, gv) (q₂.0, omega (arith, q₂.1), omega arith)) in
@@ -205,25 +205,25 @@ module _ (s : State) (i : Inv s []) (o : ℕ) (below : List ℕ) (top : Top s o 
         positive some (inr ne) = omega arith
 
     -- without a turn
-    plain-inv : Inv (with_giving o (s.callback w ∷ w ∷ []) (with_held o ws (with_callback w 0 s))) []
-    plain-inv =
+    plain_inv : Inv (with_giving o (s.callback w ∷ w ∷ []) (with_held o ws (with_callback w 0 s))) []
+    plain_inv =
         let c = s.callback w in
         let out = with_callback w 0 s in
-        let i₁ = out-inv (cases_eq w 0) in
+        let i₁ = out_inv (cases_eq w 0) in
         let q₁ = rw (ph, hd, gv) at (i₁.good o po).left in
         let i₂ = held_inv out (c ∷ []) i₁ o po lo ws (w ∷ c ∷ []) (λ y py. rw hd (omega (arith, count_cons y w ws, count_cons y w (c ∷ [])))) (rw (ph, gv) (q₁.0, omega (arith, q₁.1), omega arith)) in
         let q₂ = rw (ph, gv, same o) at (i₂.good o po).left in
         giving_inv (with_held o ws out) (w ∷ c ∷ []) i₂ o po lo (c ∷ w ∷ []) [] (λ y py. rw gv (omega (arith, count_cons y c (w ∷ []), count_cons y w (c ∷ [])))) (rw (ph, same o) (q₂.0, q₂.1, omega arith))
 
-    drains-inv : Inv (drains w ws o s) []
-    drains-inv =
+    drains_inv : Inv (drains w ws o s) []
+    drains_inv =
         cond_both (s.attends && not (eqb (s.callback w) 0))
         (opened (with_phase o (Calling (s.callback w) w) (with_giving o (w ∷ s.callback w ∷ w ∷ []) (more w (with_held o ws (with_callback w 0 s))))))
-        (with_giving o (s.callback w ∷ w ∷ []) (with_held o ws (with_callback w 0 s))) (λ t. Inv t []) called-inv (λ e. plain-inv)
+        (with_giving o (s.callback w ∷ w ∷ []) (with_held o ws (with_callback w 0 s))) (λ t. Inv t []) called_inv (λ e. plain_inv)
 
   -- a place is emptied, and its content given up
-  empties-inv : s.giving o ≡ [] → (k : ℕ) → s.phase o ≡ Freeing k → k < length (s.places o) → Inv (give_up (get_or (s.places o) k 0) (with_phase o (Freeing (suc k)) (with_places o (set (s.places o) k 0) s))) []
-  empties-inv gv k ph h =
+  empties_inv : s.giving o ≡ [] → (k : ℕ) → s.phase o ≡ Freeing k → k < length (s.places o) → Inv (give_up (get_or (s.places o) k 0) (with_phase o (Freeing (suc k)) (with_places o (set (s.places o) k 0) s))) []
+  empties_inv gv k ph h =
       let x = get_or (s.places o) k 0 in
       let t = with_places o (set (s.places o) k 0) s in
       let gone : filled (take k (s.places o)) ≡ 0 = rw ph at (i.good o po).gone in
@@ -233,8 +233,8 @@ module _ (s : State) (i : Inv s []) (o : ℕ) (below : List ℕ) (top : Top s o 
       give_up_inv (with_phase o (Freeing (suc k)) t) [] x i₂
 
   -- a weak reference leaves its list, and its callback is given up
-  leaves-inv : s.giving o ≡ [] → (k : ℕ) → s.phase o ≡ Freeing k → length (s.places o) ≤ k → Inv (give_up (s.callback o) (with_phase o Leaving (with_callback o 0 (unlisted o s)))) []
-  leaves-inv gv k ph h =
+  leaves_inv : s.giving o ≡ [] → (k : ℕ) → s.phase o ≡ Freeing k → length (s.places o) ≤ k → Inv (give_up (s.callback o) (with_phase o Leaving (with_callback o 0 (unlisted o s)))) []
+  leaves_inv gv k ph h =
       let r = (s.shape o).referent in
       let u = with_weak r (without o (s.weak r)) s in
       let gone : filled (s.places o) ≡ 0 = rw (ph, take_all k (s.places o) h) at (i.good o po).gone in
@@ -285,12 +285,12 @@ frees_inv s i o below st gv ph =
 pub advance_inv : (s : State) → Inv s [] → Inv (advance s) []
 advance_inv s i = advance_cases s (λ t. Inv t []) (record {
   idle = λ r. i;
-  gives = λ o below top x xs gv. gives-inv s i o below top x xs gv;
-  takes = λ o below top gv r w rest wk few. takes-inv s i o below top gv r w rest wk few;
-  completes = λ o below top gv ph w ws hd. completes-inv s i o below top ph;
-  clears = λ o below top gv r hd wk. clears-inv s i o below top r gv hd;
-  drains = λ o below top gv ph w ws hd. drains-inv s i o below top gv ph w ws hd;
-  empties = λ o below top gv k ph h. empties-inv s i o below top gv k ph h;
-  leaves = λ o below top gv k ph h. leaves-inv s i o below top gv k ph h;
+  gives = λ o below top x xs gv. gives_inv s i o below top x xs gv;
+  takes = λ o below top gv r w rest wk few. takes_inv s i o below top gv r w rest wk few;
+  completes = λ o below top gv ph w ws hd. completes_inv s i o below top ph;
+  clears = λ o below top gv r hd wk. clears_inv s i o below top r gv hd;
+  drains = λ o below top gv ph w ws hd. drains_inv s i o below top gv ph w ws hd;
+  empties = λ o below top gv k ph h. empties_inv s i o below top gv k ph h;
+  leaves = λ o below top gv k ph h. leaves_inv s i o below top gv k ph h;
   frees = λ o below top gv ph. frees_inv s i o below top.stack gv ph;
 })

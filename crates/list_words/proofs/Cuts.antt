@@ -33,23 +33,23 @@ module _ (s : ℕ) (last : List (List ℕ)) where
 
 -- ---- and where none stands
 module _ (s : ℕ) where
-  none-step : (b : ℕ) (bs : List ℕ) (t : Bool) → eqb b s ≡ t → length (b ∷ bs) ≤ before s (b ∷ bs) → (length bs ≤ before s bs → pieces s ([] ∷ []) bs ≡ bs ∷ []) → pieces s ([] ∷ []) (b ∷ bs) ≡ (b ∷ bs) ∷ []
-  none-step b bs true e h ih = let long = rw e at h in absurd (omega arith)
-  none-step b bs false e h ih = let long = rw e at h in rw e (ap (joined b) (ih (omega arith)))
+  none_step : (b : ℕ) (bs : List ℕ) (t : Bool) → eqb b s ≡ t → length (b ∷ bs) ≤ before s (b ∷ bs) → (length bs ≤ before s bs → pieces s ([] ∷ []) bs ≡ bs ∷ []) → pieces s ([] ∷ []) (b ∷ bs) ≡ (b ∷ bs) ∷ []
+  none_step b bs true e h ih = let long = rw e at h in absurd (omega arith)
+  none_step b bs false e h ih = let long = rw e at h in rw e (ap (joined b) (ih (omega arith)))
 
   pub none_words : (bs : List ℕ) → length bs ≤ before s bs → pieces s ([] ∷ []) bs ≡ bs ∷ []
   none_words [] h = refl
-  none_words (b ∷ bs) h = none-step b bs (eqb b s) refl h (λ l. none_words bs l)
+  none_words (b ∷ bs) h = none_step b bs (eqb b s) refl h (λ l. none_words bs l)
 
   line_step : (b c : ℕ) (bs : List ℕ) (t : Bool) → eqb b s ≡ t → length (b ∷ c ∷ bs) ≤ before s (b ∷ c ∷ bs) → (length (c ∷ bs) ≤ before s (c ∷ bs) → pieces s [] (c ∷ bs) ≡ (c ∷ bs) ∷ []) → pieces s [] (b ∷ c ∷ bs) ≡ (b ∷ c ∷ bs) ∷ []
   line_step b c bs true e h ih = let long = rw e at h in absurd (omega arith)
   line_step b c bs false e h ih = let long = rw e at h in rw e (ap (joined b) (ih (omega arith)))
 
-  line-last : (b : ℕ) (t : Bool) → eqb b s ≡ t → length (b ∷ []) ≤ before s (b ∷ []) → pieces s [] (b ∷ []) ≡ (b ∷ []) ∷ []
-  line-last b true e h = let long = rw e at h in absurd (omega arith)
-  line-last b false e h = rw e refl
+  line_last : (b : ℕ) (t : Bool) → eqb b s ≡ t → length (b ∷ []) ≤ before s (b ∷ []) → pieces s [] (b ∷ []) ≡ (b ∷ []) ∷ []
+  line_last b true e h = let long = rw e at h in absurd (omega arith)
+  line_last b false e h = rw e refl
 
   pub none_lines : (bs : List ℕ) → length bs ≤ before s bs → 0 < length bs → pieces s [] bs ≡ bs ∷ []
   none_lines [] h some = absurd (omega arith)
-  none_lines (b ∷ []) h some = line-last b (eqb b s) refl h
+  none_lines (b ∷ []) h some = line_last b (eqb b s) refl h
   none_lines (b ∷ c ∷ bs) h some = line_step b c bs (eqb b s) refl h (λ l. none_lines (c ∷ bs) l (omega arith))

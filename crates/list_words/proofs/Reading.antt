@@ -23,14 +23,14 @@ module _ (n b : ℕ) (bs : List ℕ) where
   abbrev rest : Option ℕ
   rest = cond (digits bs && ltb (value next bs) (2 ^ 32)) (Some (value next bs)) None
 
-  by-digit : (d : Bool) → digit b ≡ d → (l : Bool) → ltb next (2 ^ 32) ≡ l → (next < 2 ^ 32 → reads next bs ≡ rest) → reads n (b ∷ bs) ≡ whole
-  by-digit true ed true el ih = rw (ed, el) (ih (ltb-true next (2 ^ 32) el))
-  by-digit true ed false el ih = rw (ed, el) (sym (cond-false (digits bs && ltb (value next bs) (2 ^ 32)) (Some (value next bs)) None (and_right (digits bs) (ltb (value next bs) (2 ^ 32)) (le-ltb (value next bs) (2 ^ 32) (omega (arith, ltb-false next (2 ^ 32) el, value_grows next bs))))))
-  by-digit false ed l el ih = rw ed refl
+  by_digit : (d : Bool) → digit b ≡ d → (l : Bool) → ltb next (2 ^ 32) ≡ l → (next < 2 ^ 32 → reads next bs ≡ rest) → reads n (b ∷ bs) ≡ whole
+  by_digit true ed true el ih = rw (ed, el) (ih (ltb-true next (2 ^ 32) el))
+  by_digit true ed false el ih = rw (ed, el) (sym (cond-false (digits bs && ltb (value next bs) (2 ^ 32)) (Some (value next bs)) None (and_right (digits bs) (ltb (value next bs) (2 ^ 32)) (le-ltb (value next bs) (2 ^ 32) (omega (arith, ltb-false next (2 ^ 32) el, value_grows next bs))))))
+  by_digit false ed l el ih = rw ed refl
 
 reads_whole : (n : ℕ) (bs : List ℕ) → n < 2 ^ 32 → reads n bs ≡ cond (digits bs && ltb (value n bs) (2 ^ 32)) (Some (value n bs)) None
 reads_whole n [] h = rw (lt-ltb n (2 ^ 32) h) refl
-reads_whole n (b ∷ bs) h = by-digit n b bs (digit b) refl (ltb (n * 10 + (b - 48)) (2 ^ 32)) refl (λ l. reads_whole (n * 10 + (b - 48)) bs l)
+reads_whole n (b ∷ bs) h = by_digit n b bs (digit b) refl (ltb (n * 10 + (b - 48)) (2 ^ 32)) refl (λ l. reads_whole (n * 10 + (b - 48)) bs l)
 
 pub reads_number : (b : ℕ) (bs : List ℕ) → reads 0 (b ∷ bs) ≡ number (b ∷ bs)
 reads_number b bs = reads_whole 0 (b ∷ bs) (omega arith)

@@ -1,6 +1,6 @@
 ghost use Rattle.std.specs.Prelude.{◌≡◌};
 ghost use Rattle.payload.specs.Kinds.{a_cell, cell_meaning};
-ghost use Rattle.std.proofs.Common.{rules, arith};
+ghost use Rattle.payload.specs.Proper.{cell_proper};
 
 use crate::Payload;
 use crate::kinds::Cell;
@@ -16,7 +16,7 @@ impl Cell {
 impl Payload for Cell {
     ghost meaning = { cell_meaning };
 
-    ghost proper = { first_of (Prim.search rules, Prim.grind (arith, Self.row.coded.inj)) };
+    ghost proper = { cell_proper };
 
     fn kind(&self) -> u32 {
         3

@@ -1,5 +1,5 @@
 ghost use Rattle.payload.specs.Kinds.{mixed_meaning};
-ghost use Rattle.std.proofs.Common.{rules};
+ghost use Rattle.payload.specs.Proper.{mixed_proper};
 
 use crate::Payload;
 use crate::kinds::Mixed;
@@ -7,7 +7,7 @@ use crate::kinds::Mixed;
 impl<A: Payload, B: Payload> Payload for Mixed<A, B> {
     ghost meaning = { mixed_meaning A.Payload.meaning B.Payload.meaning };
 
-    ghost proper = { Prim.search rules };
+    ghost proper = { mixed_proper A.Payload.meaning B.Payload.meaning A.Payload.proper B.Payload.proper };
 
     fn kind(&self) -> u32 {
         match self {

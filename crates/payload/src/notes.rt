@@ -1,7 +1,7 @@
 ghost use Rattle.std.specs.Prelude.{◌≡◌};
 ghost use Rattle.payload.specs.Meaning.{with_edge};
 ghost use Rattle.payload.specs.Kinds.{note_meaning};
-ghost use Rattle.std.proofs.Common.{rules};
+ghost use Rattle.payload.specs.Proper.{note_proper};
 
 use crate::Payload;
 use crate::kinds::Note;
@@ -9,7 +9,7 @@ use crate::kinds::Note;
 impl Payload for Note {
     ghost meaning = { note_meaning };
 
-    ghost proper = { Prim.search rules };
+    ghost proper = { note_proper };
 
     fn kind(&self) -> u32 {
         2

@@ -1,7 +1,6 @@
 ghost use Rattle.std.specs.Prelude.{◌≡◌, ◌<◌, length, MatchOption};
-ghost use Rattle.std.proofs.Common.{length-take, arith};
 ghost use Rattle.payload.specs.Kinds.{a_row, row_meaning};
-ghost use Rattle.std.proofs.ByRecursion.{All-from_get_or, All-take};
+ghost use Rattle.payload.specs.Proper.{row_proper};
 
 use crate::Payload;
 use crate::kinds::Row;
@@ -28,12 +27,7 @@ impl Row {
 impl Payload for Row {
     ghost meaning = { row_meaning };
 
-    ghost proper = { λ x.
-        record {
-          above = omega arith;
-          few = simp length-take (omega arith);
-          names = All-take _ x.width x.edges (All-from_get_or _ x.edges 0 (λ k h. x.names k));
-        } };
+    ghost proper = { row_proper };
 
     fn kind(&self) -> u32 {
         4
