@@ -38,6 +38,6 @@ impl Ancestors {
     pub fn kept(&self) -> usize
         ensures { result ≡ min self.now.count 8 }
     {
-        self.count.min(8)
+        self.len().min(8)
     }
 }
