@@ -7,7 +7,7 @@ use Rattle.payload.proofs.rows.RowPayload.replace_edge.Goals as goal
 pub invariant_of-self : goal.invariant_of-self
 invariant_of-self c =
     let row = c.args.self.now in
-    record { few = row.few; room = simp length-set row.room; names = names_set row.edges c.args.position c.args.edge row.names (omega arith) }
+    record { few = row.few; room = simp length-set row.room; names = names_set row.edges c.args.position _ row.names (omega arith) }
 
 pub returns-then-position-self : goal.returns-then-position-self
 returns-then-position-self c = let e = take-set-lt c.args.self.now.width c.args.self.now.edges c.args.position c.args.edge (omega arith) in search (rules, e)
