@@ -1,15 +1,9 @@
 -- Pieces joined by separators are cut at them again.
-use Rattle.std.proofs.Common.{◌≡◌, ℕ, ◌≤◌, List, [], ◌∷◌, ◌++◌, length, sym, refl, ap, ◌∙◌, append_assoc}
-use Rattle.std.proofs.lemmas.List.{take_all, nil_from_length}
+use Rattle.std.proofs.Common.{◌≡◌, ℕ, List, [], ◌∷◌, ◌++◌, refl, ap, ◌∙◌, append_assoc}
+use Rattle.std.proofs.lemmas.List.{take_all}
 use Rattle.std.proofs.lemmas.Bool.{eq-eqb, ne_eqb}
 use Rattle.std.specs.List.{AllByRecursion}
 use Rattle.list_words.specs.Pieces.{joined, pieces, lines, counted, ended, final, Without, SplitAgain}
-
-pub lines_short : (bs : List ℕ) → length bs ≤ 65536 → lines bs ≡ lines (counted bs)
-lines_short bs h = ap lines (sym (take_all 65536 bs h))
-
-pub lines_none : (bs : List ℕ) → length bs ≡ 0 → lines bs ≡ []
-lines_none bs e = ap lines (nil_from_length bs e)
 
 pub piece : (s : ℕ) (last : List (List ℕ)) (w rest : List ℕ) → Without s w → pieces s last (w ++ (s ∷ rest)) ≡ w ∷ pieces s last rest
 piece s last [] rest h = rw (eq-eqb s s refl) refl
@@ -19,13 +13,13 @@ pub last_word : (s : ℕ) (w : List ℕ) → Without s w → pieces s ([] ∷ []
 last_word s [] h = refl
 last_word s (b ∷ w) h = rw (ne_eqb b s h.0) (ap (joined b) (last_word s w h.1))
 
-last_line : (w : List ℕ) → Without 10 w → lines w ≡ final w
-last_line [] h = refl
-last_line (b ∷ []) h = rw (ne_eqb b 10 h.0) refl
-last_line (b ∷ c ∷ w) h = rw (ne_eqb b 10 h.0) (ap (joined b) (last_line (c ∷ w) h.1))
+pub last_line : (s : ℕ) (w : List ℕ) → Without s w → pieces s [] w ≡ final w
+last_line s [] h = refl
+last_line s (b ∷ []) h = rw (ne_eqb b s h.0) refl
+last_line s (b ∷ c ∷ w) h = rw (ne_eqb b s h.0) (ap (joined b) (last_line s (c ∷ w) h.1))
 
 lines_ended : (ls : List (List ℕ)) (last : List ℕ) → AllByRecursion (Without 10) ls → Without 10 last → lines (ended ls ++ last) ≡ ls ++ final last
-lines_ended [] last h hl = last_line last hl
+lines_ended [] last h hl = last_line 10 last hl
 lines_ended (l ∷ ls) last h hl =
     ap lines (append_assoc l (10 ∷ ended ls) last) ∙ piece 10 [] l (ended ls ++ last) h.0 ∙ ap (λ (ws : List (List ℕ)). l ∷ ws) (lines_ended ls last h.1 hl)
 

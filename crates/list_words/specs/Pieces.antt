@@ -1,5 +1,5 @@
 -- The lines of a list and the words of a line.
-use Rattle.std.specs.Prelude.{◌≡◌, ℕ, suc, ◌<◌, ◌≤◌, cond, List, [], ◌∷◌, ◌++◌, length, take, Some, None, Option, ◌==◌, ◌≢◌}
+use Rattle.std.specs.Prelude.{◌≡◌, ℕ, ◌≤◌, cond, List, [], ◌∷◌, ◌++◌, length, take, Some, None, Option, ◌==◌, ◌≢◌}
 use Rattle.std.specs.Borrow.{Bor}
 use Rattle.std.specs.List.{AllByRecursion}
 
@@ -21,19 +21,14 @@ lines bs = pieces 10 [] bs
 abbrev pub words : List ℕ → List (List ℕ)
 words bs = pieces 32 ([] ∷ []) bs
 
+-- the words that are still to come, where the bytes that are left may be none
+abbrev pub words_left : Option (Bor (List ℕ)) → List (List ℕ)
+words_left None = []
+words_left (Some bs) = words bs.now
+
 -- only the first 65,536 bytes of a list count
 abbrev pub counted : List ℕ → List ℕ
 counted bs = take 65536 bs
-
--- how many bytes stand before the first separator
-abbrev pub before : ℕ → List ℕ → ℕ
-before separator [] = 0
-before separator (b ∷ bs) = cond (b == separator) 0 (suc (before separator bs))
-
--- bytes cut at their first separator: what stands before it, and what behind it if there is one
-abbrev pub Cut : ℕ → List ℕ → List ℕ → Option (Bor (List ℕ)) → Type 0
-Cut separator bs first None = (first ≡ bs) × (pieces separator ([] ∷ []) bs ≡ bs ∷ []) × (0 < length bs → pieces separator [] bs ≡ bs ∷ [])
-Cut separator bs first (Some rest) = (last : List (List ℕ)) → pieces separator last bs ≡ first ∷ pieces separator last rest.now
 
 -- each line with a newline behind it
 abbrev pub ended : List (List ℕ) → List ℕ
@@ -44,6 +39,11 @@ ended (l ∷ ls) = l ++ (10 ∷ ended ls)
 abbrev pub final : List ℕ → List (List ℕ)
 final [] = []
 final (b ∷ bs) = (b ∷ bs) ∷ []
+
+-- bytes cut at their first separator: what stands before it, and what behind it if there is one
+abbrev pub Cut : ℕ → List ℕ → List ℕ → Option (Bor (List ℕ)) → Type 0
+Cut separator bs first None = (first ≡ bs) × (pieces separator ([] ∷ []) bs ≡ bs ∷ []) × (pieces separator [] bs ≡ final bs)
+Cut separator bs first (Some rest) = (last : List (List ℕ)) → pieces separator last bs ≡ first ∷ pieces separator last rest.now
 
 abbrev pub Without : ℕ → List ℕ → Type 0
 Without separator bs = AllByRecursion (λ b. b ≢ separator) bs

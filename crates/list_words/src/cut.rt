@@ -1,28 +1,18 @@
-ghost use Rattle.std.specs.Prelude.{◌≡◌, ◌≤◌, length};
-ghost use Rattle.list_words.specs.Pieces.{before, Cut};
+ghost use Rattle.std.specs.Prelude.{◌≡◌, ◌≤◌, length, position, ◌==◌};
+ghost use Rattle.list_words.specs.Pieces.{Cut};
 
-/// How many bytes stand before the first `separator`.
-fn position(bytes: &[u8], separator: u8) -> usize
-    ensures value { result ≡ before separator bytes.now }
-    ensures bound { result ≤ length bytes.now }
+fn find(bytes: &[u8], separator: u8) -> Option<usize>
+    ensures { result ≡ position (λ b. b == separator) bytes.now }
 {
-    for (i, b) in bytes.iter().enumerate() {
-        if *b == separator {
-            return i;
-        }
-    }
-    bytes.len()
+    bytes.iter().position(|b| *b == separator)
 }
 
 /// What stands before the first `separator`, and what behind it if there is one.
 pub fn cut(bytes: &[u8], separator: u8) -> (&[u8], Option<&[u8]>)
     ensures { Cut separator bytes.now result.0.now result.1 }
 {
-    let end = position(bytes, separator);
-    let first = &bytes[0..end];
-    if end < bytes.len() {
-        (first, Some(&bytes[end + 1..bytes.len()]))
-    } else {
-        (first, None)
+    match find(bytes, separator) {
+        Some(end) => (&bytes[..end], Some(&bytes[end + 1..])),
+        None => (bytes, None),
     }
 }

@@ -1,36 +1,45 @@
-ghost use Rattle.std.specs.Prelude.{◌≡◌};
+ghost use Rattle.std.specs.Prelude.{◌≡◌, ℕ, List};
+ghost use Rattle.std.specs.Iterator.{YieldsFirstRef, item_count};
 ghost use Rattle.list_words.specs.Pieces.{lines, counted, SplitAgain};
-ghost use Rattle.list_words.specs.Words.{Takes};
 
 use crate::cut::cut;
+use std::marker::Model;
 
 /// How many bytes of a list count.
 pub const LIMIT: usize = 65536;
 
-/// Goes through a list line by line.
+/// Goes through a list line by line. Each line comes without its newline.
 #[derive(Drop)]
 pub struct Lines<'a> {
     rest: &'a [u8],
 }
 
+impl<'a> Model for Lines<'a> {
+    ghost Value = { List (List ℕ) };
+
+    ghost view = { λ s. lines s.rest.now };
+}
+
 impl<'a> Lines<'a> {
     /// Only the first `LIMIT` bytes count.
     pub fn new(list: &'a [u8]) -> Lines<'a>
-        ensures lines { lines result.rest.now ≡ lines (counted list.now) }
-        ensures again { SplitAgain list.now (lines result.rest.now) }
+        ensures lines { result ≡ lines (counted list.now) }
+        ensures again { SplitAgain list.now result }
     {
-        if list.len() <= LIMIT {
-            return Lines { rest: list };
-        }
         Lines {
-            rest: &list[0..LIMIT],
+            rest: &list[..LIMIT.min(list.len())],
         }
     }
+}
 
-    /// The next line, without its newline.
-    pub fn next_line(&mut self) -> Option<&'a [u8]>
-        ensures { Takes (lines self.old.rest.now) result (lines self.new.rest.now) }
-    {
+impl<'a> Iterator for Lines<'a> {
+    type Item = &'a [u8];
+
+    ghost next_gives = { YieldsFirstRef (λ left. left) };
+
+    ghost remaining = { item_count (λ left. left) };
+
+    fn next(&mut self) -> Option<&'a [u8]> {
         if self.rest.is_empty() {
             return None;
         }

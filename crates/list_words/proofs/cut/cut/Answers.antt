@@ -1,14 +1,12 @@
-use Rattle.std.proofs.Common.{◌≤◌, length, arith}
-use Rattle.std.proofs.lemmas.List.{take_all}
-use Rattle.list_words.specs.Pieces.{before}
-use Rattle.list_words.proofs.Cuts.{cut_at, none_words, none_lines}
+use Rattle.std.proofs.Common.{refl, sym, ◌∙◌}
+use Rattle.list_words.proofs.Cuts.{cut_at, without}
+use Rattle.list_words.proofs.Joins.{last_word, last_line}
 use Rattle.list_words.proofs.cut.cut.Goals as goal
 
-pub returns-then-end-bytes : goal.returns-then-end-bytes
-returns-then-end-bytes c last = cut_at c.args.separator last c.args.bytes.now _ c.position-end.ensures.value c.if-end-bytes.true
+pub returns-in-Some : goal.returns-in-Some
+returns-in-Some c last = cut_at c.args.separator last c.args.bytes.now c.in-Some.end (sym c.find.ensures ∙ c.in-Some.is)
 
-pub returns-else-end-bytes : goal.returns-else-end-bytes
-returns-else-end-bytes c =
-    let bs = c.args.bytes.now in
-    let long : length bs ≤ before c.args.separator bs = omega (arith, c.position-end.ensures.value) in
-    (take_all _ bs (omega arith), none_words c.args.separator bs long, none_lines c.args.separator bs long)
+pub returns-in-None : goal.returns-in-None
+returns-in-None c =
+    let none = without c.args.separator c.args.bytes.now (sym c.find.ensures ∙ c.in-None.is) in
+    (refl, last_word c.args.separator c.args.bytes.now none, last_line c.args.separator c.args.bytes.now none)

@@ -1,11 +1,11 @@
-use Rattle.std.proofs.Common.{refl}
-use Rattle.list_words.proofs.Joins.{lines_short, split_again}
+use Rattle.std.proofs.Common.{ap, ◌∙◌, take}
+use Rattle.std.proofs.lemmas.List.{take_min}
+use Rattle.list_words.specs.Pieces.{lines}
+use Rattle.list_words.proofs.Joins.{split_again}
 use Rattle.list_words.proofs.lines.Lines.new.Goals as goal
 
-pub returns-then-list-le-LIMIT : goal.returns-then-list-le-LIMIT
-returns-then-list-le-LIMIT c =
-    let e = lines_short c.args.list.now c.if-list-le-LIMIT.true in
-    record { lines = e; again = split_again c.args.list.now _ e }
+pub returns-clause-lines : goal.returns-clause-lines
+returns-clause-lines c = ap (λ n. lines (take n c.args.list.now)) c.min.ensures ∙ ap lines (take_min 65536 c.args.list.now)
 
-pub returns : goal.returns
-returns c = record { lines = refl; again = split_again c.args.list.now _ refl }
+pub returns-clause-again : goal.returns-clause-again
+returns-clause-again c = split_again c.args.list.now _ (returns-clause-lines c)
