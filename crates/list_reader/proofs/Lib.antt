@@ -1,5 +1,2 @@
 mod Edges
-mod Letters
-mod Lists
-mod Telling
 mod Writing

@@ -1,4 +1,3 @@
 pub mod Calls
 pub mod Readings
-pub mod Verbs
 pub mod Written

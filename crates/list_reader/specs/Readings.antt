@@ -1,14 +1,14 @@
 -- What the reader's functions say of a line.
-use Rattle.std.specs.Prelude.{◌≡◌, ℕ, List, [], ◌∷◌, vec_items}
+use Rattle.std.specs.Prelude.{◌≡◌, ℕ, List, [], ◌∷◌, Ok, Err, Result, vec_items}
 use Rattle.list_reader.specs.Calls as calls
-use Rattle.list_reader.specs.Calls.{Said, Asks, Quotes, Short, one_number, no_more, numbers}
+use Rattle.list_reader.specs.Calls.{Said, Asks, Quotes, Short}
 use Rattle.list_words.specs.Pieces.{words}
 use Rattle.list_reader.specs.declared.call.Call.{Call}
 use Rattle.list_reader.specs.declared.call.Call.TheVariants.{Attend, Make, Hold, Drop, Weaken, Upgrade, Intern, HandBack}
-use Rattle.list_reader.specs.declared.list.Line.{Line}
-use Rattle.list_reader.specs.declared.list.Line.TheVariants as line
 use Rattle.list_reader.specs.declared.fault.Fault.{Fault}
-use Rattle.list_reader.specs.declared.fault.Fault.TheVariants.{Unreadable, TooFew, Memory}
+use Rattle.list_reader.specs.declared.fault.Fault.TheVariants.{Unreadable, TooFew}
+use Rattle.list_reader.specs.declared.fault.ReadError.{ReadError}
+use Rattle.list_reader.specs.declared.fault.ReadError.TheVariants as error
 
 -- the call that a value of the reader's type stands for
 abbrev pub asked : Call → calls.Call
@@ -21,18 +21,26 @@ asked (Upgrade reference) = calls.Upgrade reference
 asked (Intern object) = calls.Intern object
 asked (HandBack turn) = calls.HandBack turn
 
--- a fault tells what the line is, and `short_of_memory` is what want of memory tells
-abbrev pub Tells : Type 0 → Said → Fault → Type 0
-Tells short_of_memory line (Unreadable word) = line ≡ Quotes word.now
-Tells short_of_memory line TooFew = line ≡ Short
-Tells short_of_memory line Memory = short_of_memory
+-- what a line says that has a fault
+abbrev pub faulty : Fault → Said
+faulty (Unreadable word) = Quotes word.now
+faulty TooFew = Short
+
+-- what a line says of which a part was read, where `then` is what follows from that part
+abbrev pub outcome : {X : Type 0} → Result X Fault → (X → Said) → Said
+outcome (Ok x) then = then x
+outcome (Err fault) then = faulty fault
+
+-- what a line that was read says
+abbrev pub said : Result Call Fault → Said
+said line = outcome line (λ call. Asks (asked call))
+
+-- a line says what comes of a part of it; `short_of_memory` is what want of memory tells
+abbrev pub Reads : {X : Type 0} → Type 0 → Said → Result X ReadError → (X → Said) → Type 0
+Reads short_of_memory line (Ok x) then = line ≡ then x
+Reads short_of_memory line (Err (error.Fault fault)) then = line ≡ faulty fault
+Reads short_of_memory line (Err error.Memory) then = short_of_memory
 
 -- only a make can want memory
 abbrev pub Makes : List ℕ → Type 0
 Makes bs = (rest : List (List ℕ)) × (words bs ≡ (109 ∷ []) ∷ rest)
-
--- what a line that was read says
-abbrev pub said : Line → Said
-said (line.Asks call) = Asks (asked call)
-said (line.Unreadable word) = Quotes word.now
-said line.TooFew = Short

@@ -6,9 +6,8 @@ mod call;
 mod fault;
 mod list;
 mod read;
-mod verb;
 
 pub use call::Call;
-pub use fault::Fault;
+pub use fault::{Fault, ReadError};
 pub use list::{Line, read_list};
 pub use read::read_call;

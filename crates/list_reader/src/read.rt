@@ -1,37 +1,18 @@
-ghost use Rattle.std.specs.Prelude.{◌≡◌, [], ◌∷◌, MatchResult};
-ghost use Rattle.list_words.specs.Words.{left};
-ghost use Rattle.list_reader.specs.Calls.{Asks, make, weaken, by_words, says};
-ghost use Rattle.list_reader.specs.Readings.{asked, Tells, Makes};
-ghost use Rattle.list_reader.specs.Verbs.{letter_of};
+ghost use Rattle.std.specs.Prelude.{◌≡◌};
+ghost use Rattle.list_reader.specs.Calls.{Asks, make, weaken, says};
+ghost use Rattle.list_reader.specs.Readings.{asked, said, Reads, Makes};
 
 use crate::arguments::{edges, last_number, next_number};
 use crate::call::Call;
-use crate::fault::Fault;
-use crate::verb::{Verb, verb_of};
+use crate::fault::{Fault, ReadError};
 use list_words::Cursor;
 use std::alloc::Global;
 
-/// What the first word asks for, which has to be one known letter.
-fn first_verb<'a>(words: &mut Cursor<'a>) -> Result<Verb, Fault<'a>>
-    ensures { MatchResult result (λ v. left words.old ≡ (letter_of v ∷ []) ∷ left words.new) (Tells ⊥ (by_words (left words.old))) }
+fn make<'a>(heap: Global, mut words: Cursor<'a>) -> Result<Call, ReadError<'a>>
+    ensures { Reads (Unit {0}) (make words.entry) result (λ call. Asks (asked call)) }
 {
-    let Some(word) = words.next_bytes() else {
-        return Err(Fault::TooFew);
-    };
-    if word.len() != 1 {
-        return Err(Fault::Unreadable(word));
-    }
-    match verb_of(word[0] as char) {
-        Some(verb) => Ok(verb),
-        None => Err(Fault::Unreadable(word)),
-    }
-}
-
-fn make<'a>(heap: Global, words: &mut Cursor<'a>) -> Result<Call, Fault<'a>>
-    ensures { MatchResult result (λ call. make (left words.old) ≡ Asks (asked call)) (Tells (Unit {0}) (make (left words.old))) }
-{
-    let class = next_number(words)?;
-    let dictionary = next_number(words)?;
+    let class = next_number(&mut words)?;
+    let dictionary = next_number(&mut words)?;
     let edges = edges(heap, words)?;
     Ok(Call::Make {
         class,
@@ -40,11 +21,11 @@ fn make<'a>(heap: Global, words: &mut Cursor<'a>) -> Result<Call, Fault<'a>>
     })
 }
 
-fn weaken<'a>(words: &mut Cursor<'a>) -> Result<Call, Fault<'a>>
-    ensures { MatchResult result (λ call. weaken (left words.old) ≡ Asks (asked call)) (Tells ⊥ (weaken (left words.old))) }
+fn weaken<'a>(mut words: Cursor<'a>) -> Result<Call, Fault<'a>>
+    ensures { weaken words.entry ≡ said result }
 {
-    let class = next_number(words)?;
-    let object = next_number(words)?;
+    let class = next_number(&mut words)?;
+    let object = next_number(&mut words)?;
     let callback = last_number(words)?;
     Ok(Call::Weaken {
         class,
@@ -54,13 +35,35 @@ fn weaken<'a>(words: &mut Cursor<'a>) -> Result<Call, Fault<'a>>
 }
 
 /// The call that a line asks for.
-pub fn read_call(heap: Global, line: &[u8]) -> Result<Call, Fault<'_>>
-    ensures { MatchResult result (λ call. says line.now ≡ Asks (asked call)) (Tells (Makes line.now) (says line.now)) }
+pub fn read_call(heap: Global, line: &[u8]) -> Result<Call, ReadError<'_>>
+    ensures { Reads (Makes line.now) (says line.now) result (λ call. Asks (asked call)) }
 {
     let mut words = Cursor::new(line);
-    match first_verb(&mut words)? {
-        Verb::Make => make(heap, &mut words),
-        Verb::Weaken => weaken(&mut words),
-        Verb::Single(single) => Ok(single.with(last_number(&mut words)?)),
+    let word = words.next_bytes().ok_or(Fault::TooFew)?;
+    let &[letter] = word else {
+        return Err(Fault::Unreadable(word).into());
+    };
+    match letter as char {
+        'a' => Ok(Call::Attend {
+            host: last_number(words)? != 0,
+        }),
+        'm' => make(heap, words),
+        'h' => Ok(Call::Hold {
+            object: last_number(words)?,
+        }),
+        'd' => Ok(Call::Drop {
+            object: last_number(words)?,
+        }),
+        'w' => Ok(weaken(words)?),
+        'u' => Ok(Call::Upgrade {
+            reference: last_number(words)?,
+        }),
+        'i' => Ok(Call::Intern {
+            object: last_number(words)?,
+        }),
+        'b' => Ok(Call::HandBack {
+            turn: last_number(words)?,
+        }),
+        _ => Err(Fault::Unreadable(word).into()),
     }
 }
