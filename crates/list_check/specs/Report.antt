@@ -1,5 +1,6 @@
 -- What is printed of a list.
-use Rattle.std.specs.Prelude.{ℕ, ◌+◌, ◌-◌, Bool, true, false, cond, List, [], ◌∷◌, ◌++◌, map, length, codes, decimal, ◌==◌}
+use Rattle.std.specs.Prelude.{ℕ, ◌+◌, ◌-◌, Bool, true, false, cond, List, [], ◌∷◌, ◌++◌, map, length, codes, count_by, decimal, ◌==◌}
+use Rattle.std.specs.List.{flat_map}
 use Rattle.list_words.specs.Pieces.{lines, counted}
 use Rattle.list_reader.specs.Calls.{Call, Attend, Make, Hold, Drop, Weaken, Upgrade, Intern, HandBack, Said, Asks, Quotes, Short, says}
 
@@ -13,8 +14,7 @@ named what n = cond (n == 0) (codes ", no " ++ what) (codes ", " ++ (what ++ (co
 
 -- each number behind a space
 abbrev pub spaced : List ℕ → List ℕ
-spaced [] = []
-spaced (n ∷ ns) = (codes " " ++ decimal n) ++ spaced ns
+spaced ns = flat_map (λ n. codes " " ++ decimal n) ns
 
 abbrev pub edged : List ℕ → List ℕ
 edged [] = codes ", no edges"
@@ -46,14 +46,13 @@ abbrev pub entries : ℕ → List Said → List ℕ
 entries n [] = []
 entries n (s ∷ ss) = entry n s ++ entries (n + 1) ss
 
-abbrev pub is_call : Said → ℕ
-is_call (Asks call) = 1
-is_call (Quotes word) = 0
-is_call Short = 0
+abbrev pub is_call : Said → Bool
+is_call (Asks call) = true
+is_call (Quotes word) = false
+is_call Short = false
 
 abbrev pub calls : List Said → ℕ
-calls [] = 0
-calls (s ∷ ss) = is_call s + calls ss
+calls ss = count_by is_call ss
 
 -- how many lines, calls and unreadable lines there were
 abbrev pub summed : List Said → List ℕ

@@ -1,9 +1,9 @@
 ghost use Rattle.std.specs.Prelude.{◌≡◌, ◌≤◌, ◌++◌, map, length, IfOk, string_bytes};
 ghost use Rattle.list_reader.specs.Readings.{said};
-ghost use Rattle.list_check.specs.Report.{telling, entry, entries, is_call, calls, summed, report};
+ghost use Rattle.list_check.specs.Report.{telling, entry, entries, calls, summed, report};
 
-use crate::describe::describe;
-use list_reader::{Line, read_list};
+use crate::describe::Described;
+use list_reader::{Fault, Line, read_list};
 use std::alloc::{AllocError, Global};
 
 /// What a line says.
@@ -11,23 +11,13 @@ fn tell(heap: Global, line: &Line) -> Result<Vec<u8>, AllocError>
     ensures { IfOk result (λ text. text.items ≡ telling (said line.now)) }
 {
     match line {
-        Line::Asks(call) => Vec::from_slice(heap, describe(heap, call)?.as_bytes()),
-        Line::Unreadable(word) => {
+        Ok(call) => Vec::from_slice(heap, Described(call).to_string(heap)?.as_bytes()),
+        Err(Fault::Unreadable(word)) => {
             let mut text = Vec::from_slice(heap, b"?? ")?;
             text.extend_from_slice(word)?;
             Ok(text)
         }
-        Line::TooFew => Vec::from_slice(heap, b"??"),
-    }
-}
-
-fn one_if_call(line: &Line) -> usize
-    ensures value { result ≡ is_call (said line.now) }
-    ensures bound { result ≤ 1 }
-{
-    match line {
-        Line::Asks(_) => 1,
-        Line::Unreadable(_) | Line::TooFew => 0,
+        Err(Fault::TooFew) => Vec::from_slice(heap, b"??"),
     }
 }
 
@@ -36,11 +26,7 @@ fn count_calls(lines: &[Line]) -> usize
     ensures value { result ≡ calls (map said lines.now) }
     ensures bound { result ≤ length lines.now }
 {
-    let mut calls = 0;
-    for line in lines {
-        calls += one_if_call(line);
-    }
-    calls
+    lines.iter().filter(|line| line.is_ok()).count()
 }
 
 /// A line behind its number.

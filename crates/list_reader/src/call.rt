@@ -1,5 +1,5 @@
 /// A call that a line asks for. Objects, references, callbacks and dictionaries go by name; 0 is none.
-#[derive(Drop)]
+#[derive(PartialEq, Eq, Debug, Drop)]
 pub enum Call {
     /// Says whether a host is present.
     Attend {
