@@ -70,7 +70,10 @@ impl<'a> fmt::Display for Described<'a> {
                 callback,
             } => {
                 let callback = Named("callback", *callback);
-                write!(f, "make a weak reference of class {class} to object {object}{callback}")
+                write!(
+                    f,
+                    "make a weak reference of class {class} to object {object}{callback}"
+                )
             }
             Call::Upgrade { reference } => write!(f, "upgrade reference {reference}"),
             Call::Intern { object } => write!(f, "intern object {object}"),

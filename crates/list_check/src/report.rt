@@ -11,7 +11,7 @@ fn tell(heap: Global, line: &Line) -> Result<Vec<u8>, AllocError>
     ensures { IfOk result (λ text. text.items ≡ telling (said line.now)) }
 {
     match line {
-        Ok(call) => Vec::from_slice(heap, Described(call).to_string(heap)?.as_bytes()),
+        Ok(call) => Ok(Described(call).to_string(heap)?.into_bytes()),
         Err(Fault::Unreadable(word)) => {
             let mut text = Vec::from_slice(heap, b"?? ")?;
             text.extend_from_slice(word)?;
@@ -33,7 +33,7 @@ fn count_calls(lines: &[Line]) -> usize
 fn numbered(heap: Global, number: usize, line: &Line) -> Result<Vec<u8>, AllocError>
     ensures { IfOk result (λ text. text.items ≡ entry number (said line.now)) }
 {
-    let mut text = Vec::from_slice(heap, format!(in heap; "{number}: ")?.as_bytes())?;
+    let mut text = format!(in heap; "{number}: ")?.into_bytes();
     text.extend_from_slice(tell(heap, line)?.as_slice())?;
     text.push(b'\n')?;
     Ok(text)
