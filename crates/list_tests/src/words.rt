@@ -1,5 +1,4 @@
-use list_reader::{Call, Fault, Line, read_call, read_list};
-use std::alloc::Global;
+use list_reader::{Call, Fault, Line, ReadError, read_call, read_list};
 use std::test::Fail;
 
 /// Lines, each with the word that it has to quote.
@@ -19,93 +18,63 @@ const QUOTES: [(&[u8], &[u8]); 12] = [
 ];
 
 #[test]
-fn unreadable(rt: HostRuntime) -> Result<(), Fail> {
-    for (line, quoted) in &QUOTES {
-        match read_call(rt.alloc(), line) {
-            Err(Fault::Unreadable(word)) => assert!(rt; word == *quoted),
-            _ => return Err(Fail::new("a line was read")),
-        }
+fn unreadable(rt: HostRuntime) {
+    for (line, word) in QUOTES {
+        let quoted = Err(ReadError::Fault(Fault::Unreadable(word)));
+        assert_eq!(rt; read_call(rt.alloc(), line), quoted);
     }
-    Ok(())
 }
 
 const SHORT: [&[u8]; 6] = [b"a", b"m 2", b"h", b"w 1 2", b"u", b"b"];
 
 #[test]
-fn too_few(rt: HostRuntime) -> Result<(), Fail> {
-    for line in &SHORT {
-        match read_call(rt.alloc(), line) {
-            Err(Fault::TooFew) => {}
-            _ => return Err(Fail::new("a line with too few words was not found short")),
-        }
+fn too_few(rt: HostRuntime) {
+    for line in SHORT {
+        let short = Err(ReadError::Fault(Fault::TooFew));
+        assert_eq!(rt; read_call(rt.alloc(), line), short);
     }
-    Ok(())
 }
 
-fn held(heap: Global, line: &[u8]) -> Option<u32> {
-    match read_call(heap, line) {
-        Ok(Call::Hold { object }) => Some(object),
-        _ => None,
-    }
-}
+/// Lines, each with the object that it holds.
+const HOLDS: [(&[u8], u32); 3] = [
+    (b"h 0", 0),
+    (b"h 4294967295", 4294967295),
+    (b"h 00000000000000000000000000000000012", 12),
+];
 
 #[test]
 fn numbers(rt: HostRuntime) {
-    assert_eq!(rt; held(rt.alloc(), b"h 0"), Some(0));
-    assert_eq!(rt; held(rt.alloc(), b"h 4294967295"), Some(4294967295));
-    assert_eq!(rt;
-        held(rt.alloc(), b"h 00000000000000000000000000000000012"),
-        Some(12)
-    );
+    for (line, object) in HOLDS {
+        assert_eq!(rt; read_call(rt.alloc(), line), Ok(Call::Hold { object }));
+    }
 }
 
 #[test]
 fn edges(rt: HostRuntime) -> Result<(), Fail> {
-    match read_call(rt.alloc(), b"m 2 7 1 0 3") {
-        Ok(
-            Call::Make {
-                class,
-                dictionary,
-                edges,
-            },
-        ) => {
-            assert_eq!(rt; (class, dictionary), (2, 7));
-            assert!(rt; edges.as_slice() == [1, 0, 3].as_slice());
-            Ok(())
-        }
-        _ => Err(Fail::new("a make was not read")),
-    }
-}
-
-#[derive(Clone, Copy, PartialEq, Eq, Debug)]
-enum Shape {
-    Call,
-    Quotes(usize),
-    Short,
-}
-
-/// A call, the length of the quoted word, or neither.
-fn shape_of(line: &Line) -> Shape {
-    match line {
-        Line::Asks(_) => Shape::Call,
-        Line::Unreadable(word) => Shape::Quotes(word.len()),
-        Line::TooFew => Shape::Short,
-    }
+    let make = Call::Make {
+        class: 2,
+        dictionary: 7,
+        edges: vec![in rt.alloc(); 1, 0, 3]?,
+    };
+    assert_eq!(rt; read_call(rt.alloc(), b"m 2 7 1 0 3"), Ok(make));
+    Ok(())
 }
 
 #[test]
 fn whole_lists(rt: HostRuntime) -> Result<(), Fail> {
     let lines = read_list(rt.alloc(), b"a 1\nqqq 2\n\nh\nm 1 2 3")?;
-    let shapes = [
-        Shape::Call,
-        Shape::Quotes(3),
-        Shape::Quotes(0),
-        Shape::Short,
-        Shape::Call,
-    ];
-    assert_eq!(rt; lines.len(), shapes.len());
-    for (line, expected) in lines.as_slice().iter().zip(shapes) {
-        assert_eq!(rt; shape_of(line), expected);
-    }
+    let make = Call::Make {
+        class: 1,
+        dictionary: 2,
+        edges: vec![in rt.alloc(); 3]?,
+    };
+    let expected: Vec<Line> = vec![in rt.alloc();
+        Ok(Call::Attend { host: true }),
+        Err(Fault::Unreadable(b"qqq")),
+        Err(Fault::Unreadable(b"")),
+        Err(Fault::TooFew),
+        Ok(make),
+    ]?;
+    assert!(rt; lines == expected);
     Ok(())
 }

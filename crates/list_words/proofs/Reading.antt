@@ -1,8 +1,7 @@
 -- A number, read digit by digit.
-use Rattle.std.proofs.Common.{◌≡◌, ℕ, ◌+◌, ◌-◌, ◌*◌, ◌^◌, ◌<◌, ◌≤◌, Bool, true, false, cond, ◌&&◌, ltb, List, [], ◌∷◌, length, get_or, drop, Some, None, Option, sym, refl, ap, arith}
-use Rattle.std.proofs.lemmas.List.{drop_more, drop_all}
+use Rattle.std.proofs.Common.{◌≡◌, ℕ, ◌+◌, ◌-◌, ◌*◌, ◌^◌, ◌<◌, ◌≤◌, Bool, true, false, cond, ◌&&◌, ltb, List, [], ◌∷◌, length, Some, None, Option, sym, refl, arith}
 use Rattle.std.proofs.lemmas.Bool.{lt-ltb, le-ltb, ltb-true, ltb-false, cond-false, and_right}
-use Rattle.list_words.specs.Numbers.{digit, digits, value, number, longer}
+use Rattle.list_words.specs.Numbers.{digit, digits, value, number}
 
 -- what is left of a word, behind digits of value n
 abbrev pub reads : ℕ → List ℕ → Option ℕ
@@ -38,25 +37,3 @@ reads_number b bs = reads_whole 0 (b ∷ bs) (omega arith)
 pub reads_begins : (w : List ℕ) → 0 < length w → reads 0 w ≡ number w
 reads_begins [] h = absurd (omega arith)
 reads_begins (b ∷ bs) h = reads_number b bs
-
--- one digit more, or none
-module _ (n : ℕ) (w : List ℕ) (i : ℕ) (h : i < length w) where
-  abbrev byte : ℕ
-  byte = get_or w i 0
-
-  on : (t : Bool) → (digit byte && ltb (n * 10 + (byte - 48)) (2 ^ 32)) ≡ t → (m : ℕ) → longer n byte ≡ Some m → reads n (drop i w) ≡ reads m (drop (i + 1) w)
-  on true e m r = rw (drop_more w i 0 h, e) (ap (λ (k : ℕ). reads k (drop (i + 1) w)) (let q = rw e at r in cc))
-  on false e m r = let q = rw e at r in cc
-
-  pub reads_on : (m : ℕ) → longer n byte ≡ Some m → reads n (drop i w) ≡ reads m (drop (i + 1) w)
-  reads_on = on (digit byte && ltb (n * 10 + (byte - 48)) (2 ^ 32)) refl
-
-  stops : (t : Bool) → (digit byte && ltb (n * 10 + (byte - 48)) (2 ^ 32)) ≡ t → longer n byte ≡ None → reads n (drop i w) ≡ None
-  stops true e r = let q = rw e at r in cc
-  stops false e r = rw (drop_more w i 0 h, e) refl
-
-  pub reads_stops : longer n byte ≡ None → reads n (drop i w) ≡ None
-  reads_stops = stops (digit byte && ltb (n * 10 + (byte - 48)) (2 ^ 32)) refl
-
-pub reads_ends : (n : ℕ) (w : List ℕ) (i : ℕ) → length w ≤ i → reads n (drop i w) ≡ Some n
-reads_ends n w i h = ap (reads n) (drop_all i w h)
