@@ -7,22 +7,22 @@ ghost use Rattle.refusal.specs.Numbers.{number};
 /// The conditions by which a call is refused, in the order in which they are tried.
 #[derive(Clone, Copy, PartialEq, Eq, Debug)]
 pub enum Refusal {
-    BadTable,
-    NoSuch,
-    Dying,
-    NotYours,
-    NoClass,
-    WrongClass,
-    FixedClass,
-    NotWeak,
-    NoPlace,
-    BrokenClass,
-    Marked,
-    CountFull,
-    NoRoom,
-    BirthsSpent,
-    NotNewest,
-    ListShort,
+    BadTable = 1,
+    NoSuch = 2,
+    Dying = 3,
+    NotYours = 4,
+    NoClass = 5,
+    WrongClass = 6,
+    FixedClass = 7,
+    NotWeak = 8,
+    NoPlace = 9,
+    BrokenClass = 10,
+    Marked = 11,
+    CountFull = 12,
+    NoRoom = 13,
+    BirthsSpent = 14,
+    NotNewest = 15,
+    ListShort = 16,
 }
 
 impl Refusal {
@@ -30,24 +30,7 @@ impl Refusal {
     pub fn number(self) -> u32
         ensures { result ≡ number self }
     {
-        match self {
-            Refusal::BadTable => 1,
-            Refusal::NoSuch => 2,
-            Refusal::Dying => 3,
-            Refusal::NotYours => 4,
-            Refusal::NoClass => 5,
-            Refusal::WrongClass => 6,
-            Refusal::FixedClass => 7,
-            Refusal::NotWeak => 8,
-            Refusal::NoPlace => 9,
-            Refusal::BrokenClass => 10,
-            Refusal::Marked => 11,
-            Refusal::CountFull => 12,
-            Refusal::NoRoom => 13,
-            Refusal::BirthsSpent => 14,
-            Refusal::NotNewest => 15,
-            Refusal::ListShort => 16,
-        }
+        self as u32
     }
 }
 
@@ -55,5 +38,6 @@ impl Refusal {
 #[derive(Clone, Copy, PartialEq, Eq, Debug)]
 pub struct Fault {
     pub refusal: Refusal,
+    /// No `Option`: the rules' own number, which a reply shows as it is.
     pub argument: u32,
 }
