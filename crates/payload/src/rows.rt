@@ -14,9 +14,7 @@ impl Row {
             return None;
         }
         let mut copied = [0; 8];
-        for (i, edge) in edges.iter().enumerate() {
-            copied[i] = *edge;
-        }
+        copied[..edges.len()].copy_from_slice(edges);
         Some(Row {
             width: edges.len() as u32,
             edges: copied,
