@@ -1,6 +1,7 @@
 -- The meaning of each payload is a proper one.
 use Rattle.std.proofs.Common.{arith, length-take}
-use Rattle.std.proofs.ByRecursion.{All-from_get_or, All-take}
+use Rattle.std.proofs.ByRecursion.{All-take}
+use Rattle.std.proofs.lemmas.List.Elements.{recursion_from_All}
 use Rattle.payload.specs.Meaning.{Meaning, Proper}
 use Rattle.payload.specs.Kinds.{note_meaning, cell_meaning, row_meaning, mixed_meaning}
 use Rattle.payload.specs.declared.kinds.Note.{Note}
@@ -19,7 +20,7 @@ pub row_proper : (row : Row) → Proper (row_meaning row)
 row_proper row = record {
   above = omega arith;
   few = simp length-take (omega arith);
-  names = All-take _ row.width row.edges (All-from_get_or _ row.edges 0 (λ k h. row.names k));
+  names = All-take _ row.width row.edges (recursion_from_All _ row.edges row.names);
 }
 
 pub mixed_proper :

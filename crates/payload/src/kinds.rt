@@ -1,4 +1,5 @@
-ghost use Rattle.std.specs.Prelude.{◌≡◌, ℕ, ◌^◌, ◌<◌, ◌≤◌, length, slice_index};
+ghost use Rattle.std.specs.Prelude.{◌≡◌, ◌^◌, ◌<◌, ◌≤◌, length};
+ghost use Rattle.std.specs.List.{All};
 
 /// A number, and no edges.
 #[derive(Clone, Copy, PartialEq, Eq, Debug)]
@@ -20,7 +21,7 @@ pub struct Row {
     pub(crate) edges: [u32; 8],
     ghost few: { width ≤ 8 },
     ghost room: { length edges ≡ 8 },
-    ghost names: { (k : ℕ) → slice_index edges k < 2 ^ 32 },
+    ghost names: { All (λ e. e < 2 ^ 32) edges },
 }
 
 /// Either of two payloads; nested, any of several.
