@@ -5,9 +5,9 @@ use crate::Payload;
 use crate::kinds::Mixed;
 
 impl<A: Payload, B: Payload> Payload for Mixed<A, B> {
-    ghost meaning = { mixed_meaning A.Payload.meaning B.Payload.meaning };
+    ghost meaning = { mixed_meaning A.meaning B.meaning };
 
-    ghost proper = { mixed_proper A.Payload.meaning B.Payload.meaning A.Payload.proper B.Payload.proper };
+    ghost proper = { mixed_proper A.meaning B.meaning A.proper B.proper };
 
     fn kind(&self) -> u32 {
         match self {

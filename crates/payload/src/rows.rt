@@ -20,6 +20,12 @@ impl Row {
             edges: copied,
         })
     }
+
+    fn edges(&self) -> &[u32]
+        ensures { result.now ≡ (row_meaning self.now).edges }
+    {
+        &self.edges[..self.width as usize]
+    }
 }
 
 impl Payload for Row {
@@ -40,14 +46,11 @@ impl Payload for Row {
     }
 
     fn edge(&self, position: u32) -> u32 {
-        if position < self.width {
-            self.edges[position as usize]
-        } else {
-            0
-        }
+        self.edges().get(position as usize).copied().unwrap_or(0)
     }
 
     fn replace_edge(&mut self, position: u32, edge: u32) {
+        // No `get_mut`: the borrow checker does not cover the loan of a field beside ghost fields yet.
         if position < self.width {
             self.edges[position as usize] = edge;
         }

@@ -38,6 +38,6 @@ impl Refusal {
 #[derive(Clone, Copy, PartialEq, Eq, Debug)]
 pub struct Fault {
     pub refusal: Refusal,
-    /// No `Option`: the rules' own number, which a reply shows as it is.
+    // No `Option`: the rules' own number, which a reply shows as it is.
     pub argument: u32,
 }
