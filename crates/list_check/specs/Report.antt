@@ -1,8 +1,8 @@
 -- What is printed of a list.
 use Rattle.std.specs.Prelude.{ℕ, ◌+◌, ◌-◌, Bool, true, false, cond, List, [], ◌∷◌, ◌++◌, map, length, codes, count_by, decimal, ◌==◌}
-use Rattle.std.specs.List.{flat_map}
 use Rattle.list_words.specs.Pieces.{lines, counted}
 use Rattle.list_reader.specs.Calls.{Call, Attend, Make, Hold, Drop, Weaken, Upgrade, Intern, HandBack, Said, Asks, Quotes, Short, says}
+use Rattle.list_reader.specs.Written.{spaced}
 
 abbrev pub hosts : Bool → List ℕ
 hosts true = codes "a host attends"
@@ -11,10 +11,6 @@ hosts false = codes "no host attends"
 -- a name behind what it is, or that there is none
 abbrev pub named : List ℕ → ℕ → List ℕ
 named what n = cond (n == 0) (codes ", no " ++ what) (codes ", " ++ (what ++ (codes " " ++ decimal n)))
-
--- each number behind a space
-abbrev pub spaced : List ℕ → List ℕ
-spaced ns = flat_map (λ n. codes " " ++ decimal n) ns
 
 abbrev pub edged : List ℕ → List ℕ
 edged [] = codes ", no edges"

@@ -1,13 +1,12 @@
 -- A list written out, and read back.
-use Rattle.std.specs.Prelude.{◌≡◌, ℕ, ◌^◌, ◌<◌, ◌≤◌, cond, List, [], ◌∷◌, ◌++◌, map, length, decimal}
-use Rattle.std.specs.List.{AllByRecursion}
+use Rattle.std.specs.Prelude.{◌≡◌, ℕ, ◌^◌, ◌<◌, ◌≤◌, cond, List, [], ◌∷◌, map, length, decimal}
+use Rattle.std.specs.List.{AllByRecursion, flat_map}
 use Rattle.list_words.specs.Pieces.{ended}
 use Rattle.list_reader.specs.Calls.{Call, Attend, Make, Hold, Drop, Weaken, Upgrade, Intern, HandBack, Said, Asks}
 
 -- each number in decimal behind a space
 abbrev pub spaced : List ℕ → List ℕ
-spaced [] = []
-spaced (n ∷ ns) = 32 ∷ (decimal n ++ spaced ns)
+spaced ns = flat_map (λ n. 32 ∷ decimal n) ns
 
 -- a call as a line
 abbrev pub written : Call → List ℕ

@@ -7,6 +7,7 @@ use crate::cut::cut;
 use crate::number::number;
 use std::marker::Model;
 
+// Not a `Result`: a word that is no number is no error.
 /// A word of a line, as the cursor yields it.
 #[derive(Clone, Copy, PartialEq, Eq, Debug)]
 pub enum Word<'a> {

@@ -1,6 +1,6 @@
 use Rattle.std.proofs.Common.{take}
 use Rattle.std.specs.Fmt.{HasWritten, IsPlainFormatter}
-use Rattle.list_check.specs.Report.{spaced}
+use Rattle.list_reader.specs.Written.{spaced}
 use Rattle.list_check.proofs.describe.EdgesDisplay.fmt.Given as goal
 
 abbrev pub invariant-loop-edge : goal.invariant-loop-edge
