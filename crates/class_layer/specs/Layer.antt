@@ -1,15 +1,14 @@
 -- What the layer remembers.
-use Rattle.std.specs.Prelude.{◌≡◌, ℕ, ◌+◌, ◌%◌, cond, List, [], ◌∷◌, replicate, Some, None, Option, ◌==◌, slice_set}
-use Rattle.std.specs.List.{AllByRecursion}
+use Rattle.std.specs.Prelude.{◌≡◌, ℕ, ◌+◌, ◌%◌, List, replicate, Some, None, Option, ◌==◌, slice_set}
+use Rattle.std.specs.List.{AllByRecursion, find}
+use Rattle.std.specs.Option.{option_map}
 use Rattle.classes.specs.Rows.{Class, find_del}
-use Rattle.class_layer.specs.declared.types.Answer.{Answer}
-use Rattle.class_layer.specs.declared.types.Answers.{Answers}
-use Rattle.class_layer.specs.declared.types.Remembering.{Remembering}
+use Rattle.class_layer.specs.declared.answers.Answer.{Answer}
+use Rattle.class_layer.specs.declared.answers.Answers.{Answers}
 
 -- the answer that is kept for a class
 abbrev pub looked_up : List Answer → ℕ → Option ℕ
-looked_up [] c = None
-looked_up (a ∷ as') c = cond (a.class == c) (Some a.del) (looked_up as' c)
+looked_up kept c = option_map (λ a. a.del) (find (λ a. a.class == c) kept)
 
 -- one more answer, and none
 abbrev pub with_answer : Answers → ℕ → ℕ → Answers
@@ -23,11 +22,14 @@ abbrev pub after_question : Option ℕ → Answers → ℕ → ℕ → Answers
 after_question (Some d) a c r = a
 after_question None a c r = with_answer a c r
 
+abbrev pub after_find : Answers → ℕ → ℕ → Answers
+after_find a c r = after_question (looked_up a.kept c) a c r
+
 -- each answer that is kept is find del's over these rows
 abbrev pub Right : List Class → List Answer → Type 0
 Right rows kept = AllByRecursion (λ a. a.del ≡ find_del rows a.class) kept
 
--- what a layer keeps true of itself, over a table that means rows and keeps something true itself
-pub record SoundOver {T : Type 0} (rows : T → List Class) (sound : T → Type 0) (layer : Remembering T) : Type 0 where
-  pub below : sound layer.below
-  pub right : Right (rows layer.below) layer.answers.kept
+-- a layer: the table below it, and the answers
+pub record Layer (T : Type 0) : Type 0 where
+  pub below : T
+  pub answers : Answers

@@ -1,7 +1,20 @@
 ghost use Rattle.std.specs.Prelude.{◌≡◌};
 ghost use Rattle.class_layer.specs.Layer.{looked_up, with_answer, no_answers};
 
-use crate::types::{Answer, Answers};
+/// What find del answered for a class. A free place has 0 for both, which is right too: 0 is no class and has no del.
+#[derive(Clone, Copy)]
+pub struct Answer {
+    pub(crate) class: u32,
+    pub(crate) del: u32,
+}
+
+/// Up to 16 answers. No heap: the places are in the value itself, and one is written over at a time.
+#[derive(Clone, Copy)]
+pub struct Answers {
+    pub(crate) kept: [Answer; 16],
+    /// Where the next is put, once all places are taken in place of the oldest.
+    pub(crate) next: usize,
+}
 
 impl Answers {
     pub fn none() -> Answers
@@ -16,13 +29,10 @@ impl Answers {
     pub fn look_up(&self, class: u32) -> Option<u32>
         ensures { result ≡ looked_up self.now.kept class }
     {
-        let kept: &[Answer] = &self.kept;
-        for answer in kept {
-            if answer.class == class {
-                return Some(answer.del);
-            }
-        }
-        None
+        self.kept
+            .iter()
+            .find(|answer| answer.class == class)
+            .map(|answer| answer.del)
     }
 
     pub fn keep(&mut self, class: u32, del: u32)

@@ -1,17 +1,34 @@
 ghost use Rattle.std.specs.Prelude.{◌≡◌, MatchResult};
 ghost use Rattle.classes.specs.Rows.{find_del, set_del, after_set_del};
-ghost use Rattle.class_layer.specs.Layer.{looked_up, no_answers, after_question, SoundOver};
+ghost use Rattle.class_layer.specs.Layer.{no_answers, after_find};
 
-use crate::types::{Answers, Remembering};
+use crate::answers::Answers;
 use classes::ClassTable;
 use refusal::Fault;
+use std::marker::Model;
+
+/// A class table that remembers what the table below it answered.
+#[derive(Drop)]
+pub struct Remembering<T: ClassTable> {
+    below: T,
+    answers: Answers,
+}
+
+impl<T: ClassTable> Model for Remembering<T> {
+    ghost use Rattle.class_layer.specs.Layer.{Layer, Right};
+
+    ghost Value = { Layer T };
+
+    ghost view = { λ layer. record { below = layer.below; answers = layer.answers } };
+
+    ghost invariant = { λ layer. Right (T.ClassTable.rows layer.below) layer.answers.kept };
+}
 
 impl<T: ClassTable> Remembering<T> {
     /// A layer that remembers nothing yet.
     pub fn new(below: T) -> Remembering<T>
         ensures below { result.below ≡ below }
         ensures answers { result.answers ≡ no_answers }
-        ensures sound { T.ClassTable.sound below → SoundOver T.ClassTable.rows T.ClassTable.sound result }
     {
         Remembering {
             below,
@@ -23,15 +40,13 @@ impl<T: ClassTable> Remembering<T> {
     pub fn into_below(self) -> T
         ensures { result ≡ self.below }
     {
-        let Remembering { below, answers: _ } = self;
+        let Remembering { below, .. } = self;
         below
     }
 }
 
 impl<T: ClassTable> ClassTable for Remembering<T> {
     ghost rows = { λ layer. T.ClassTable.rows layer.below };
-
-    ghost sound = { SoundOver T.ClassTable.rows T.ClassTable.sound };
 
     fn last(&self) -> u32 {
         self.below.last()
@@ -66,11 +81,9 @@ impl<T: ClassTable> ClassTable for Remembering<T> {
     }
 
     fn find_del(&mut self, class: u32) -> u32
-        requires { SoundOver T.ClassTable.rows T.ClassTable.sound self.old }
         ensures value { result ≡ find_del (T.ClassTable.rows self.old.below) class }
         ensures same { T.ClassTable.rows self.new.below ≡ T.ClassTable.rows self.old.below }
-        ensures sound { SoundOver T.ClassTable.rows T.ClassTable.sound self.new }
-        ensures answers { self.new.answers ≡ after_question (looked_up self.old.answers.kept class) self.old.answers class result }
+        ensures answers { self.new.answers ≡ after_find self.old.answers class result }
     {
         if let Some(del) = self.answers.look_up(class) {
             return del;
@@ -81,10 +94,8 @@ impl<T: ClassTable> ClassTable for Remembering<T> {
     }
 
     fn set_del(&mut self, class: u32, del: bool) -> Result<(), Fault>
-        requires { SoundOver T.ClassTable.rows T.ClassTable.sound self.old }
         ensures reply { result ≡ set_del (T.ClassTable.rows self.old.below) class }
         ensures after { T.ClassTable.rows self.new.below ≡ after_set_del (T.ClassTable.rows self.old.below) class del }
-        ensures sound { SoundOver T.ClassTable.rows T.ClassTable.sound self.new }
         ensures answers { MatchResult result (λ _. self.new.answers ≡ no_answers) (λ _. self.new.answers ≡ self.old.answers) }
     {
         self.below.set_del(class, del)?;

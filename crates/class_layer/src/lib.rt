@@ -3,6 +3,5 @@
 
 mod answers;
 mod layer;
-mod types;
 
-pub use types::Remembering;
+pub use layer::Remembering;

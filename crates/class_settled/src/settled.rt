@@ -33,8 +33,6 @@ impl SettledTable {
 impl ClassTable for SettledTable {
     ghost rows = { settled_rows };
 
-    ghost sound = { λ _. Unit {0} };
-
     fn last(&self) -> u32 {
         self.rows.last()
     }

@@ -70,8 +70,6 @@ impl SearchingTable {
 impl ClassTable for SearchingTable {
     ghost rows = { rows_of };
 
-    ghost sound = { λ _. Unit {0} };
-
     fn last(&self) -> u32 {
         self.last
     }

@@ -14,9 +14,6 @@ pub use good::{good_rows, is_known};
 pub trait ClassTable {
     ghost rows: { Self → List Class };
 
-    /// What a table keeps true of itself, so that it means its rows. Each constructor gives it.
-    ghost sound: { Self → Type 0 };
-
     /// The number of the last row.
     fn last(&self) -> u32
         ensures { result ≡ length (rows self.now) };
@@ -48,15 +45,11 @@ pub trait ClassTable {
 
     /// The class whose del objects of the class run: itself, or its first ancestor that has one, or 0.
     fn find_del(&mut self, class: u32) -> u32
-        requires { sound self.old }
         ensures value { result ≡ find_del (rows self.old) class }
-        ensures same { rows self.new ≡ rows self.old }
-        ensures sound { sound self.new };
+        ensures same { rows self.new ≡ rows self.old };
 
     /// Says whether the class has a del of its own. Refuses a class that is the number of no row, and an immutable one.
     fn set_del(&mut self, class: u32, del: bool) -> Result<(), Fault>
-        requires { sound self.old }
         ensures reply { result ≡ set_del (rows self.old) class }
-        ensures after { rows self.new ≡ after_set_del (rows self.old) class del }
-        ensures sound { sound self.new };
+        ensures after { rows self.new ≡ after_set_del (rows self.old) class del };
 }

@@ -17,4 +17,4 @@ returns-then-class-eq0 c =
     (λ e. no_del rows class (ap (class_at rows) e))
     (λ h. no_del rows class (class_at_past rows class (omega (arith, length_rows t, t.few, h.1))))
     c.then-class-eq0.either in
-    record { value = sym none; same = refl; sound = tt }
+    record { value = sym none; same = refl }

@@ -12,7 +12,7 @@ returns-then-class-eq0 c =
     let e : known rows c.args.class ≡ false =
     unknown c.args.self.now c.args.class
     (elim c.then-class-eq0.branch [ then-class-eq0-via-then-class-eq0 w ↦ inl w.if-class-eq0.true | then-class-eq0-via-else-class-eq0+then-class-self w ↦ inr w.if-class-self.true ]) in
-    record { reply = sym (unknown_reply rows c.args.class e); after = sym (unknown_after rows c.args.class c.args.del e); sound = tt }
+    record { reply = sym (unknown_reply rows c.args.class e); after = sym (unknown_after rows c.args.class c.args.del e) }
 
 pub returns-then-self-i : goal.returns-then-self-i
 returns-then-self-i c =
@@ -20,7 +20,7 @@ returns-then-self-i c =
     let class = c.args.class in
     let e : known (rows_of t) class ≡ true = known_row t class (omega arith) (omega arith) in
     let f : (class_at (rows_of t) class).immutable ≡ true = ap (λ (k : Class). k.immutable) (sym (row_at t class c.index-self-i.result (omega arith) (omega arith))) ∙ c.if-self-i.true in
-    record { reply = sym (fixed_reply (rows_of t) class e f); after = sym (fixed_after (rows_of t) class c.args.del f); sound = tt }
+    record { reply = sym (fixed_reply (rows_of t) class e f); after = sym (fixed_after (rows_of t) class c.args.del f) }
 
 pub returns : goal.returns
 returns c =
@@ -31,5 +31,4 @@ returns c =
     record {
       reply = sym (set_reply (rows_of t) class e f);
       after = del_set t class c.args.del c.index-self-i-2.result (omega arith) (omega arith) ∙ sym (set_after (rows_of t) class c.args.del e f);
-      sound = tt;
     }
