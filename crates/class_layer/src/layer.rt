@@ -3,7 +3,7 @@ ghost use Rattle.classes.specs.Rows.{find_del, set_del, after_set_del};
 ghost use Rattle.class_layer.specs.Layer.{no_answers, after_find};
 
 use crate::answers::Answers;
-use classes::ClassTable;
+use classes::{ClassTable, Entries};
 use refusal::Fault;
 use std::marker::Model;
 
@@ -52,28 +52,8 @@ impl<T: ClassTable> ClassTable for Remembering<T> {
         self.below.last()
     }
 
-    fn members(&self, class: u32) -> u32 {
-        self.below.members(class)
-    }
-
-    fn has_dictionary(&self, class: u32) -> bool {
-        self.below.has_dictionary(class)
-    }
-
-    fn is_weak(&self, class: u32) -> bool {
-        self.below.is_weak(class)
-    }
-
-    fn is_immutable(&self, class: u32) -> bool {
-        self.below.is_immutable(class)
-    }
-
-    fn has_del(&self, class: u32) -> bool {
-        self.below.has_del(class)
-    }
-
-    fn ancestor_count(&self, class: u32) -> usize {
-        self.below.ancestor_count(class)
+    fn entries(&self, class: u32) -> Entries {
+        self.below.entries(class)
     }
 
     fn ancestor(&self, class: u32, position: usize) -> u32 {

@@ -5,7 +5,7 @@ ghost use Rattle.class_settled.specs.Table.{settled_rows};
 
 use crate::table::SettledTable;
 use class_tables::{ClassRow, SearchingTable};
-use classes::ClassTable;
+use classes::{ClassTable, Entries};
 use refusal::Fault;
 
 /// Works out all answers.
@@ -37,28 +37,8 @@ impl ClassTable for SettledTable {
         self.rows.last()
     }
 
-    fn members(&self, class: u32) -> u32 {
-        self.rows.members(class)
-    }
-
-    fn has_dictionary(&self, class: u32) -> bool {
-        self.rows.has_dictionary(class)
-    }
-
-    fn is_weak(&self, class: u32) -> bool {
-        self.rows.is_weak(class)
-    }
-
-    fn is_immutable(&self, class: u32) -> bool {
-        self.rows.is_immutable(class)
-    }
-
-    fn has_del(&self, class: u32) -> bool {
-        self.rows.has_del(class)
-    }
-
-    fn ancestor_count(&self, class: u32) -> usize {
-        self.rows.ancestor_count(class)
+    fn entries(&self, class: u32) -> Entries {
+        self.rows.entries(class)
     }
 
     fn ancestor(&self, class: u32, position: usize) -> u32 {

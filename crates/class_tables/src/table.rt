@@ -3,7 +3,7 @@ ghost use Rattle.classes.specs.Rows.{class_at, find_del};
 ghost use Rattle.class_tables.specs.Kept.{class_of, rows_of, Builds};
 
 use crate::types::{Ancestors, ClassRow, SearchingTable};
-use classes::ClassTable;
+use classes::{ClassTable, Entries};
 use refusal::{Fault, Refusal};
 
 /// What is read for a class that is the number of no row.
@@ -74,28 +74,16 @@ impl ClassTable for SearchingTable {
         self.last
     }
 
-    fn members(&self, class: u32) -> u32 {
-        self.row(class).members
-    }
-
-    fn has_dictionary(&self, class: u32) -> bool {
-        self.row(class).dictionary
-    }
-
-    fn is_weak(&self, class: u32) -> bool {
-        self.row(class).weak
-    }
-
-    fn is_immutable(&self, class: u32) -> bool {
-        self.row(class).immutable
-    }
-
-    fn has_del(&self, class: u32) -> bool {
-        self.row(class).del
-    }
-
-    fn ancestor_count(&self, class: u32) -> usize {
-        self.row(class).ancestors.len()
+    fn entries(&self, class: u32) -> Entries {
+        let row = self.row(class);
+        Entries {
+            members: row.members,
+            dictionary: row.dictionary,
+            weak: row.weak,
+            immutable: row.immutable,
+            del: row.del,
+            ancestors: row.ancestors.len(),
+        }
     }
 
     fn ancestor(&self, class: u32, position: usize) -> u32 {

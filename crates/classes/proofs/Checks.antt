@@ -1,28 +1,29 @@
--- The tests of rows, element by element.
-use Rattle.std.proofs.Common.{◌≡◌, ℕ, ◌+◌, ◌<◌, ◌≤◌, Bool, true, ◌&&◌, List, [], ◌∷◌, length, get_or, drop, refl, ap, ◌∙◌}
-use Rattle.std.proofs.lemmas.List.{at_drop_more, at_drop_all}
+-- The tests of rows, by places.
+use Rattle.std.proofs.Common.{◌≡◌, ℕ, ◌<◌, Bool, true, ◌&&◌, List, [], ◌∷◌, length, get_or, sym, refl, ap, ◌∙◌}
+use Rattle.std.specs.List.{list_all, range_with_len}
 use Rattle.std.proofs.lemmas.Bool.{lt-ltb}
+use Rattle.std.proofs.lemmas.List.Folds.{list_all-map}
+use Rattle.std.proofs.lemmas.List.FromFn.{fill_by_all}
 use Rattle.classes.specs.Rows.{Class, no_class, class_at, known, all_known, good_row, all_good, plain_weak, good_rows}
 
--- a test of every element
-module _ {X : Type 0} (p : X → Bool) (every : List X → Bool) (none : every [] ≡ true) (more : (x : X) (xs : List X) → every (x ∷ xs) ≡ (p x && every xs)) where
-  goes_by : (xs : List X) (i : ℕ) (d : X) (b : Bool) → i < length xs → p (get_or xs i d) ≡ b → every (drop i xs) ≡ (b && every (drop (i + 1) xs))
-  goes_by xs i d b h e = at_drop_more every xs i d h ∙ more (get_or xs i d) (drop (i + 1) xs) ∙ ap (λ (v : Bool). v && every (drop (i + 1) xs)) e
+by_place : {X : Type 0} (p : X → Bool) (xs : List X) (d : X) → list_all (λ i. p (get_or xs i d)) (range_with_len 0 (length xs)) ≡ list_all p xs
+by_place p xs d =
+    sym (list_all-map p (λ i. get_or xs i d) (range_with_len 0 (length xs)))
+    ∙ ap (list_all p) (sym (fill_by_all (λ i. get_or xs i d) xs (length xs) d refl (λ k h. refl)))
 
-  ends : (xs : List X) (i : ℕ) → length xs ≤ i → every (drop i xs) ≡ true
-  ends xs i h = at_drop_all every xs i h ∙ none
+known_each : (rows : List Class) (cs : List ℕ) → list_all (known rows) cs ≡ all_known rows cs
+known_each rows [] = refl
+known_each rows (c ∷ cs) = ap (λ (b : Bool). known rows c && b) (known_each rows cs)
 
-pub known_by : (rows : List Class) (cs : List ℕ) (i : ℕ) (b : Bool) → i < length cs → known rows (get_or cs i 0) ≡ b → all_known rows (drop i cs) ≡ (b && all_known rows (drop (i + 1) cs))
-known_by rows cs i = goes_by (known rows) (all_known rows) refl (λ c cs. refl) cs i 0
+good_each : (rows ks : List Class) → list_all (good_row rows) ks ≡ all_good rows ks
+good_each rows [] = refl
+good_each rows (k ∷ ks) = ap (λ (b : Bool). good_row rows k && b) (good_each rows ks)
 
-pub known_all : (rows : List Class) (cs : List ℕ) (i : ℕ) → length cs ≤ i → all_known rows (drop i cs) ≡ true
-known_all rows = ends (known rows) (all_known rows) refl (λ c cs. refl)
+pub known_by_place : (rows : List Class) (cs : List ℕ) → list_all (λ i. known rows (get_or cs i 0)) (range_with_len 0 (length cs)) ≡ all_known rows cs
+known_by_place rows cs = by_place (known rows) cs 0 ∙ known_each rows cs
 
-pub good_by : (rows : List Class) (i : ℕ) (b : Bool) → i < length rows → good_row rows (get_or rows i no_class) ≡ b → all_good rows (drop i rows) ≡ (b && all_good rows (drop (i + 1) rows))
-good_by rows i = goes_by (good_row rows) (all_good rows) refl (λ k ks. refl) rows i no_class
-
-pub good_all : (rows : List Class) (i : ℕ) → length rows ≤ i → all_good rows (drop i rows) ≡ true
-good_all rows = ends (good_row rows) (all_good rows) refl (λ k ks. refl) rows
+pub good_by_place : (rows : List Class) → list_all (λ i. good_row rows (get_or rows i no_class)) (range_with_len 0 (length rows)) ≡ all_good rows rows
+good_by_place rows = by_place (good_row rows) rows no_class ∙ good_each rows rows
 
 pub good_from : (rows : List Class) → 0 < length rows → plain_weak (class_at rows 1) ≡ true → good_rows rows ≡ all_good rows rows
 good_from rows h e = ap (λ (b : Bool). b && (plain_weak (class_at rows 1) && all_good rows rows)) (lt-ltb 0 (length rows) h) ∙ ap (λ (b : Bool). b && all_good rows rows) e

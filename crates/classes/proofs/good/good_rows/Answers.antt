@@ -1,24 +1,19 @@
-use Rattle.std.proofs.Common.{◌≡◌, true, false, get_or, sym, ap, ◌∙◌, arith}
-use Rattle.classes.specs.Rows.{no_class, good_row}
-use Rattle.classes.proofs.Checks.{good_by, good_all, good_from}
+use Rattle.std.proofs.Common.{◌≡◌, rules, ℕ, not, eqb, get_or, length, sym, ap, ◌∙◌, arith}
+use borrow.Author.Tests.{tests}
+use Rattle.std.proofs.lemmas.Bool.{false≢true}
+use Rattle.std.proofs.lemmas.Iterator.{YieldsList-from_range}
+use Rattle.std.proofs.lemmas.Iterator.Search.{all_from_yields_List}
+use Rattle.classes.specs.Rows.{no_class, good_row, all_good}
+use Rattle.classes.proofs.Checks.{good_by_place, good_from}
 use Rattle.classes.proofs.Numbered.{class_at_next}
 use Rattle.classes.proofs.good.good_rows.Goals as goal
+use Rattle.classes.proofs.good.good_rows.Goals.{then-last-ne0, else-last-ne0}
 
-pub returns-then-not-is_good : goal.returns-then-not-is_good
-returns-then-not-is_good g c =
+pub returns-then-is_plain_weak : goal.returns-then-is_plain_weak
+returns-then-is_plain_weak g c =
     let rows = g.T.ClassTable.rows c.args.table.now in
-    let i = c.loop-i.i in
-    let e : good_row rows (get_or rows i no_class) ≡ false = sym (c.if-not-is_good.ensures ∙ ap (good_row rows) (class_at_next rows i)) in
-    sym (good_by rows i false (omega arith) e) ∙ c.loop-i.invariant ∙ sym (good_from rows (omega arith) (sym c.if-not-is_plain_weak.ensures))
-
-pub loop-i-preserved : goal.loop-i-preserved
-loop-i-preserved g c =
-    let rows = g.T.ClassTable.rows c.args.table.now in
-    let i = c.loop-i.i in
-    let e : good_row rows (get_or rows i no_class) ≡ true = sym (c.if-not-is_good.ensures ∙ ap (good_row rows) (class_at_next rows i)) in
-    sym (good_by rows i true (omega arith) e) ∙ c.loop-i.invariant
-
-pub returns : goal.returns
-returns g c =
-    let rows = g.T.ClassTable.rows c.args.table.now in
-    sym (good_all rows c.loop-i.i (omega arith)) ∙ c.loop-i.invariant ∙ sym (good_from rows (omega arith) (sym c.if-not-is_plain_weak.ensures))
+    let n = length rows in
+    let each : c.all.result ≡ all_good rows rows =
+    all_from_yields_List (λ i. good_row rows (get_or rows i no_class)) _ _ _ c.all.ensures.ran (YieldsList-from_range 0 n n (cc) (omega arith)) (λ x b q k. search (rules, tests, class_at_next))
+    ∙ good_by_place rows in
+    elim c.if-last-ne0.branch [ then-last-ne0 w ↦ each ∙ sym (good_from rows (omega arith) (cc)) | else-last-ne0 w ↦ absurd (false≢true (sym (ap (λ (n : ℕ). not (eqb n 0)) w.if-last-ne0.false) ∙ sym w.value-is ∙ c.if-is_plain_weak.true)) ]

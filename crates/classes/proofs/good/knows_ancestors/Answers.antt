@@ -1,25 +1,15 @@
-use Rattle.std.proofs.Common.{◌≡◌, true, false, get_or, sym, ap, ◌∙◌, arith}
+use Rattle.std.proofs.Common.{rules, get_or, length, ◌∙◌, arith}
+use borrow.Author.Tests.{tests}
+use Rattle.std.proofs.lemmas.Iterator.{YieldsList-from_range}
+use Rattle.std.proofs.lemmas.Iterator.Search.{all_from_yields_List}
 use Rattle.classes.specs.Rows.{class_at, known}
-use Rattle.classes.proofs.Checks.{known_by, known_all}
+use Rattle.classes.proofs.Checks.{known_by_place}
 use Rattle.classes.proofs.good.knows_ancestors.Goals as goal
-
-pub returns-then-not-is_known : goal.returns-then-not-is_known
-returns-then-not-is_known g c =
-    let rows = g.T.ClassTable.rows c.args.table.now in
-    let ancestors = (class_at rows c.args.class).ancestors in
-    let i = c.loop-position.position in
-    let e : known rows (get_or ancestors i 0) ≡ false = sym (c.if-not-is_known.ensures ∙ ap (known rows) c.ancestor.ensures) in
-    sym (known_by rows ancestors i false (omega arith) e) ∙ c.loop-position.invariant
-
-pub loop-position-preserved : goal.loop-position-preserved
-loop-position-preserved g c =
-    let rows = g.T.ClassTable.rows c.args.table.now in
-    let ancestors = (class_at rows c.args.class).ancestors in
-    let i = c.loop-position.position in
-    let e : known rows (get_or ancestors i 0) ≡ true = sym (c.if-not-is_known.ensures ∙ ap (known rows) c.ancestor.ensures) in
-    sym (known_by rows ancestors i true (omega arith) e) ∙ c.loop-position.invariant
 
 pub returns : goal.returns
 returns g c =
     let rows = g.T.ClassTable.rows c.args.table.now in
-    sym (known_all rows (class_at rows c.args.class).ancestors c.loop-position.position (omega arith)) ∙ c.loop-position.invariant
+    let ancestors = (class_at rows c.args.class).ancestors in
+    let n = length ancestors in
+    all_from_yields_List (λ i. known rows (get_or ancestors i 0)) _ _ _ c.all.ensures.ran (YieldsList-from_range 0 n n (cc) (omega arith)) (λ x b q k. search (rules, tests))
+    ∙ known_by_place rows ancestors
