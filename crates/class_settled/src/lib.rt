@@ -2,6 +2,5 @@
 #![tactic(auto)]
 
 mod settled;
-mod table;
 
-pub use table::SettledTable;
+pub use settled::SettledTable;

@@ -1,28 +1,43 @@
-ghost use Rattle.std.specs.Prelude.{◌≡◌};
-ghost use Rattle.class_tables.specs.Kept.{rows_of, Builds};
+ghost use Rattle.std.specs.Prelude.{◌≡◌, ◌≤◌, length};
+ghost use Rattle.class_tables.specs.Kept.{Builds};
 ghost use Rattle.class_settled.specs.Answers.{Settled};
-ghost use Rattle.class_settled.specs.Table.{settled_rows};
 
-use crate::table::SettledTable;
 use class_tables::{ClassRow, SearchingTable};
 use classes::{ClassTable, Entries};
 use refusal::Fault;
+use std::array;
+use std::marker::Model;
+
+/// Up to 64 rows, with the answer of find del for every number that a row can have.
+#[derive(Drop)]
+pub struct SettledTable {
+    rows: SearchingTable,
+    answers: [u32; 64],
+}
+
+impl Model for SettledTable {
+    ghost use Rattle.std.specs.Prelude.{◌≤◌, List, length};
+    ghost use Rattle.classes.specs.Rows.{Class};
+    ghost use Rattle.class_settled.specs.Answers.{Settled};
+
+    ghost Value = { List Class };
+
+    ghost view = { λ t. t.rows };
+
+    ghost invariant = { λ t. (length t.rows ≤ 64) × Settled t.rows t.answers };
+}
 
 /// Works out all answers.
 fn settle(rows: &SearchingTable) -> [u32; 64]
-    ensures { Settled (rows_of rows.now) result }
+    ensures { Settled rows.now result }
 {
-    let mut answers = [0; 64];
-    for i in 0..64usize {
-        answers[i] = rows.del_of(i as u32 + 1);
-    }
-    answers
+    array::from_fn(|i| rows.del_of(i as u32 + 1))
 }
 
 impl SettledTable {
     /// Refuses more than 64 rows.
     pub fn new(given: &[ClassRow]) -> Result<SettledTable, Fault>
-        ensures { Builds settled_rows given.now result }
+        ensures { Builds given.now result }
     {
         let rows = SearchingTable::new(given)?;
         let answers = settle(&rows);
@@ -31,9 +46,12 @@ impl SettledTable {
 }
 
 impl ClassTable for SettledTable {
-    ghost rows = { settled_rows };
+    ghost rows = { λ t. t };
 
-    fn last(&self) -> u32 {
+    fn last(&self) -> u32
+        ensures last { result ≡ length self.now }
+        ensures few { result ≤ 64 }
+    {
         self.rows.last()
     }
 
@@ -46,10 +64,11 @@ impl ClassTable for SettledTable {
     }
 
     fn find_del(&mut self, class: u32) -> u32 {
-        if class == 0 || class > 64 {
-            return 0;
-        }
-        self.answers[class as usize - 1]
+        class
+            .checked_sub(1)
+            .and_then(|place| self.answers.get(place as usize))
+            .copied()
+            .unwrap_or(0)
     }
 
     fn set_del(&mut self, class: u32, del: bool) -> Result<(), Fault> {

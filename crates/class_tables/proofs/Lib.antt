@@ -1,2 +1,3 @@
 mod Eights
-pub mod Meant
+mod Searching
+mod Setting

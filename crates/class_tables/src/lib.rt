@@ -2,7 +2,9 @@
 #![tactic(auto)]
 
 mod ancestors;
+mod row;
 mod table;
-mod types;
 
-pub use types::{Ancestors, ClassRow, SearchingTable};
+pub use ancestors::Ancestors;
+pub use row::ClassRow;
+pub use table::SearchingTable;

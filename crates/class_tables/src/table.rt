@@ -1,93 +1,84 @@
-ghost use Rattle.std.specs.Prelude.{◌≡◌};
-ghost use Rattle.classes.specs.Rows.{class_at, find_del};
-ghost use Rattle.class_tables.specs.Kept.{class_of, rows_of, Builds};
+ghost use Rattle.std.specs.Prelude.{◌≡◌, ◌≤◌, length, MatchOption};
+ghost use Rattle.classes.specs.Rows.{find_del};
+ghost use Rattle.class_tables.specs.Kept.{class_of, Has, HasNone, Builds};
 
-use crate::types::{Ancestors, ClassRow, SearchingTable};
+use crate::row::ClassRow;
+use arrayvec::ArrayVec;
 use classes::{ClassTable, Entries};
 use refusal::{Fault, Refusal};
+use std::marker::Model;
 
-/// What is read for a class that is the number of no row.
-const NO_ROW: ClassRow = ClassRow {
-    members: 0,
-    dictionary: false,
-    weak: false,
-    immutable: false,
-    del: false,
-    ancestors: Ancestors {
-        count: 0,
-        first: [0; 8],
-    },
-};
+/// Up to 64 rows.
+#[derive(Drop)]
+pub struct SearchingTable {
+    rows: ArrayVec<ClassRow, 64>,
+}
+
+impl Model for SearchingTable {
+    ghost use Rattle.std.specs.Prelude.{List, map};
+    ghost use Rattle.classes.specs.Rows.{Class};
+
+    ghost Value = { List Class };
+
+    ghost use Rattle.class_tables.specs.Kept.{class_of};
+
+    ghost view = { λ t. map class_of t.rows.items };
+}
 
 impl SearchingTable {
     /// Refuses more than 64 rows.
     pub fn new(given: &[ClassRow]) -> Result<SearchingTable, Fault>
-        ensures { Builds rows_of given.now result }
+        ensures { Builds given.now result }
     {
-        if given.len() > 64 {
-            return Err(Fault {
-                refusal: Refusal::BadTable,
-                argument: 0,
-            });
-        }
-        let mut rows = [NO_ROW; 64];
-        for i in 0..given.len() {
-            rows[i] = given[i];
-        }
-        Ok(SearchingTable {
-            rows,
-            last: given.len() as u32,
-        })
+        let rows = ArrayVec::try_from(given).map_err(|_| Fault {
+            refusal: Refusal::BadTable,
+            argument: 0,
+        })?;
+        Ok(SearchingTable { rows })
     }
 
-    fn row(&self, class: u32) -> ClassRow
-        ensures { class_of result ≡ class_at (rows_of self.now) class }
+    fn row(&self, class: u32) -> Option<&ClassRow>
+        ensures { MatchOption result (HasNone self.now class) (λ row. Has self.now class (class_of row.now)) }
     {
-        if class == 0 || class > self.last {
-            return NO_ROW;
-        }
-        self.rows[class as usize - 1]
+        let place = class.checked_sub(1)?;
+        self.rows.get(place as usize)
     }
 
     /// Finds the class whose del objects of a class run, and changes nothing.
     pub fn del_of(&self, class: u32) -> u32
-        ensures { result ≡ find_del (rows_of self.now) class }
+        ensures { result ≡ find_del self.now class }
     {
-        let row = self.row(class);
+        let Some(row) = self.row(class) else {
+            return 0;
+        };
         if row.del {
             return class;
         }
-        for i in 0..row.ancestors.kept() {
-            let ancestor = row.ancestors.at(i);
-            if self.row(ancestor).del {
-                return ancestor;
-            }
-        }
-        0
+        row.ancestors
+            .first()
+            .iter()
+            .find(|&&ancestor| self.has_del(ancestor))
+            .copied()
+            .unwrap_or(0)
     }
 }
 
 impl ClassTable for SearchingTable {
-    ghost rows = { rows_of };
+    ghost rows = { λ t. t };
 
-    fn last(&self) -> u32 {
-        self.last
+    fn last(&self) -> u32
+        ensures last { result ≡ length self.now }
+        ensures few { result ≤ 64 }
+    {
+        self.rows.len() as u32
     }
 
     fn entries(&self, class: u32) -> Entries {
-        let row = self.row(class);
-        Entries {
-            members: row.members,
-            dictionary: row.dictionary,
-            weak: row.weak,
-            immutable: row.immutable,
-            del: row.del,
-            ancestors: row.ancestors.len(),
-        }
+        self.row(class).map(Entries::from).unwrap_or_default()
     }
 
     fn ancestor(&self, class: u32, position: usize) -> u32 {
-        self.row(class).ancestors.at(position)
+        self.row(class).map_or(0, |row| row.ancestors.at(position))
     }
 
     fn find_del(&mut self, class: u32) -> u32 {
@@ -95,20 +86,17 @@ impl ClassTable for SearchingTable {
     }
 
     fn set_del(&mut self, class: u32, del: bool) -> Result<(), Fault> {
-        if class == 0 || class > self.last {
-            return Err(Fault {
-                refusal: Refusal::NoClass,
-                argument: 1,
-            });
-        }
-        let i = class as usize - 1;
-        if self.rows[i].immutable {
+        let row = self.row(class).ok_or(Fault {
+            refusal: Refusal::NoClass,
+            argument: 1,
+        })?;
+        if row.immutable {
             return Err(Fault {
                 refusal: Refusal::FixedClass,
                 argument: 1,
             });
         }
-        self.rows[i].del = del;
+        self.rows[class as usize - 1].del = del;
         Ok(())
     }
 }
