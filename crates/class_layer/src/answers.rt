@@ -4,16 +4,17 @@ ghost use Rattle.class_layer.specs.Layer.{looked_up, with_answer, no_answers};
 /// What find del answered for a class. A free place has 0 for both, which is right too: 0 is no class and has no del.
 #[derive(Clone, Copy)]
 pub struct Answer {
-    pub(crate) class: u32,
-    pub(crate) del: u32,
+    class: u32,
+    del: u32,
 }
 
-/// Up to 16 answers. No heap: the places are in the value itself, and one is written over at a time.
+// A plain array, written through `&mut self`: no heap, and one place changes at a time.
+/// Up to 16 answers.
 #[derive(Clone, Copy)]
 pub struct Answers {
-    pub(crate) kept: [Answer; 16],
+    kept: [Answer; 16],
     /// Where the next is put, once all places are taken in place of the oldest.
-    pub(crate) next: usize,
+    next: usize,
 }
 
 impl Answers {

@@ -1,10 +1,10 @@
 -- One row rewritten.
-use Rattle.std.proofs.Common.{◌≡◌, ℕ, ◌-◌, ◌<◌, ◌≤◌, Bool, true, false, List, map, length, get_or, set, sym, ap, ◌∙◌, arith, length-set}
+use Rattle.std.proofs.Common.{◌≡◌, ℕ, zero, suc, ◌-◌, ◌<◌, ◌≤◌, Bool, true, false, List, map, length, get_or, set, sym, ap, ◌∙◌, arith, length-set}
 use Rattle.std.specs.List.{refill}
+use Rattle.std.proofs.lemmas.Bool.{false≢true}
 use Rattle.std.proofs.lemmas.Grind.{common_steps}
 use Rattle.std.proofs.lemmas.List.{get_or-map, length-map, map-set}
 use Rattle.classes.specs.Rows.{Class, no_class, class_at, known, with_flag, after_set_del}
-use Rattle.classes.proofs.Settings.{with_del_number, set_after}
 use Rattle.class_tables.specs.Kept.{class_of}
 use Rattle.class_tables.specs.declared.row.ClassRow.{ClassRow}
 
@@ -13,6 +13,10 @@ flagged r b = record { members = r.members; dictionary = r.dictionary; weak = r.
 
 refilled : {X : Type 0} (xs ws : List X) → length ws ≡ length xs → refill (length xs) xs ws ≡ ws
 refilled xs ws e = grind (arith, common_steps)
+
+after_set : (ks : List Class) (c : ℕ) (b : Bool) → known ks c ≡ true → (class_at ks c).immutable ≡ false → set ks (c - 1) (with_flag (get_or ks (c - 1) no_class) b) ≡ after_set_del ks c b
+after_set ks zero b e f = absurd (false≢true e)
+after_set ks (suc i) b e f = let p : suc i - 1 ≡ i = omega arith in rw p (grind arith)
 
 -- ws are the rows, lent to be written
 pub row_set : (rows ws : List ClassRow) (means : List Class) (c : ℕ) (b : Bool) (d : ClassRow) → map class_of rows ≡ means → ws ≡ rows → known means c ≡ true → (class_at means c).immutable ≡ false
@@ -27,5 +31,4 @@ row_set rows ws means c b d view same is fixed =
     ∙ map-set class_of rows i (flagged (get_or rows i d) b)
     ∙ ap (λ (k : Class). set (map class_of rows) i (with_flag k b)) (sym (get_or-map class_of rows i d no_class (omega arith)))
     ∙ ap (λ (ks : List Class). set ks i (with_flag (get_or ks i no_class) b)) view
-    ∙ sym (with_del_number means c b h)
-    ∙ sym (set_after means c b is fixed)
+    ∙ after_set means c b is fixed

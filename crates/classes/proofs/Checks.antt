@@ -1,10 +1,9 @@
 -- The tests of rows, by places.
-use Rattle.std.proofs.Common.{◌≡◌, ℕ, ◌<◌, Bool, true, ◌&&◌, List, [], ◌∷◌, length, get_or, sym, refl, ap, ◌∙◌}
+use Rattle.std.proofs.Common.{◌≡◌, ℕ, ◌+◌, Bool, ◌&&◌, List, [], ◌∷◌, length, get_or, sym, refl, ap, ◌∙◌, add-one}
 use Rattle.std.specs.List.{list_all, range_with_len}
-use Rattle.std.proofs.lemmas.Bool.{lt-ltb}
 use Rattle.std.proofs.lemmas.List.Folds.{list_all-map}
 use Rattle.std.proofs.lemmas.List.FromFn.{fill_by_all}
-use Rattle.classes.specs.Rows.{Class, no_class, class_at, known, all_known, good_row, all_good, plain_weak, good_rows}
+use Rattle.classes.specs.Rows.{Class, no_class, class_at, known, all_known, good_row, all_good}
 
 by_place : {X : Type 0} (p : X → Bool) (xs : List X) (d : X) → list_all (λ i. p (get_or xs i d)) (range_with_len 0 (length xs)) ≡ list_all p xs
 by_place p xs d =
@@ -25,5 +24,5 @@ known_by_place rows cs = by_place (known rows) cs 0 ∙ known_each rows cs
 pub good_by_place : (rows : List Class) → list_all (λ i. good_row rows (get_or rows i no_class)) (range_with_len 0 (length rows)) ≡ all_good rows rows
 good_by_place rows = by_place (good_row rows) rows no_class ∙ good_each rows rows
 
-pub good_from : (rows : List Class) → 0 < length rows → plain_weak (class_at rows 1) ≡ true → good_rows rows ≡ all_good rows rows
-good_from rows h e = ap (λ (b : Bool). b && (plain_weak (class_at rows 1) && all_good rows rows)) (lt-ltb 0 (length rows) h) ∙ ap (λ (b : Bool). b && all_good rows rows) e
+pub class_at_next : (rows : List Class) (i : ℕ) → class_at rows (i + 1) ≡ get_or rows i no_class
+class_at_next rows i = ap (class_at rows) (add-one i)

@@ -1,3 +1,1 @@
 mod Checks
-pub mod Numbered
-pub mod Settings

@@ -1,11 +1,9 @@
-use Rattle.std.proofs.Common.{◌≡◌, rules, ℕ, not, eqb, get_or, length, sym, ap, ◌∙◌, arith}
+use Rattle.std.proofs.Common.{◌≡◌, rules, get_or, length, ◌∙◌, arith}
 use borrow.Author.Tests.{tests}
-use Rattle.std.proofs.lemmas.Bool.{false≢true}
 use Rattle.std.proofs.lemmas.Iterator.{YieldsList-from_range}
 use Rattle.std.proofs.lemmas.Iterator.Search.{all_from_yields_List}
 use Rattle.classes.specs.Rows.{no_class, good_row, all_good}
-use Rattle.classes.proofs.Checks.{good_by_place, good_from}
-use Rattle.classes.proofs.Numbered.{class_at_next}
+use Rattle.classes.proofs.Checks.{good_by_place, class_at_next}
 use Rattle.classes.proofs.good.good_rows.Goals as goal
 use Rattle.classes.proofs.good.good_rows.Goals.{then-last-ne0, else-last-ne0}
 
@@ -16,4 +14,4 @@ returns-then-is_plain_weak g c =
     let each : c.all.result ≡ all_good rows rows =
     all_from_yields_List (λ i. good_row rows (get_or rows i no_class)) _ _ _ c.all.ensures.ran (YieldsList-from_range 0 n n (cc) (omega arith)) (λ x b q k. search (rules, tests, class_at_next))
     ∙ good_by_place rows in
-    elim c.if-last-ne0.branch [ then-last-ne0 w ↦ each ∙ sym (good_from rows (omega arith) (cc)) | else-last-ne0 w ↦ absurd (false≢true (sym (ap (λ (n : ℕ). not (eqb n 0)) w.if-last-ne0.false) ∙ sym w.value-is ∙ c.if-is_plain_weak.true)) ]
+    elim c.if-last-ne0.branch [ then-last-ne0 w ↦ grind arith | else-last-ne0 w ↦ absurd (grind arith) ]
