@@ -21,7 +21,7 @@ impl<T: ClassTable> Model for Remembering<T> {
 
     ghost view = { λ layer. record { below = layer.below; answers = layer.answers } };
 
-    ghost invariant = { λ layer. Right (T.ClassTable.rows layer.below) layer.answers.kept };
+    ghost invariant = { λ layer. Right (T.rows layer.below) layer.answers.kept };
 }
 
 impl<T: ClassTable> Remembering<T> {
@@ -46,7 +46,7 @@ impl<T: ClassTable> Remembering<T> {
 }
 
 impl<T: ClassTable> ClassTable for Remembering<T> {
-    ghost rows = { λ layer. T.ClassTable.rows layer.below };
+    ghost rows = { λ layer. T.rows layer.below };
 
     fn last(&self) -> u32 {
         self.below.last()
@@ -61,8 +61,8 @@ impl<T: ClassTable> ClassTable for Remembering<T> {
     }
 
     fn find_del(&mut self, class: u32) -> u32
-        ensures value { result ≡ find_del (T.ClassTable.rows self.old.below) class }
-        ensures same { T.ClassTable.rows self.new.below ≡ T.ClassTable.rows self.old.below }
+        ensures value { result ≡ find_del (T.rows self.old.below) class }
+        ensures same { T.rows self.new.below ≡ T.rows self.old.below }
         ensures answers { self.new.answers ≡ after_find self.old.answers class result }
     {
         if let Some(del) = self.answers.look_up(class) {
@@ -74,8 +74,8 @@ impl<T: ClassTable> ClassTable for Remembering<T> {
     }
 
     fn set_del(&mut self, class: u32, del: bool) -> Result<(), Fault>
-        ensures reply { result ≡ set_del (T.ClassTable.rows self.old.below) class }
-        ensures after { T.ClassTable.rows self.new.below ≡ after_set_del (T.ClassTable.rows self.old.below) class del }
+        ensures reply { result ≡ set_del (T.rows self.old.below) class }
+        ensures after { T.rows self.new.below ≡ after_set_del (T.rows self.old.below) class del }
         ensures answers { MatchResult result (λ _. self.new.answers ≡ no_answers) (λ _. self.new.answers ≡ self.old.answers) }
     {
         self.below.set_del(class, del)?;
