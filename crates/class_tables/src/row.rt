@@ -17,7 +17,7 @@ pub struct ClassRow {
     pub ancestors: Ancestors,
 }
 
-impl<'a> From<&'a ClassRow> for Entries {
+impl From<&ClassRow> for Entries {
     ghost use Rattle.classes.specs.Entries.{entries_of};
     ghost use Rattle.class_tables.specs.Kept.{class_of};
 

@@ -29,7 +29,7 @@ pub trait ClassTable {
     fn ancestor(&self, class: u32, position: usize) -> u32
         ensures { result ≡ slice_index (class_at (rows self.now) class).ancestors position };
 
-    /// The class whose del objects of the class run: itself, or its first ancestor that has one, or 0.
+    /// The class whose del objects of the class run: itself, or its first ancestor that has one, or 0, which is no class.
     fn find_del(&mut self, class: u32) -> u32
         ensures value { result ≡ find_del (rows self.old) class }
         ensures same { rows self.new ≡ rows self.old };
