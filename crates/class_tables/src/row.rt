@@ -30,7 +30,7 @@ impl From<&ClassRow> for Entries {
             weak: row.weak,
             immutable: row.immutable,
             del: row.del,
-            ancestors: row.ancestors.len(),
+            ancestor_count: row.ancestors.len(),
         }
     }
 }

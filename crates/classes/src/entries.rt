@@ -10,5 +10,5 @@ pub struct Entries {
     /// Whether the class has a del of its own.
     pub del: bool,
     /// How many ancestors it has.
-    pub ancestors: usize,
+    pub ancestor_count: usize,
 }

@@ -75,6 +75,6 @@ pub trait ClassTable {
     fn ancestor_count(&self, class: u32) -> usize
         ensures { result ≡ length (class_at (rows self.now) class).ancestors }
     {
-        self.entries(class).ancestors
+        self.entries(class).ancestor_count
     }
 }
