@@ -48,6 +48,7 @@ impl<T: ClassTable> Remembering<T> {
 impl<T: ClassTable> ClassTable for Remembering<T> {
     ghost rows = { λ layer. T.rows layer.below };
 
+    // `last`, `entries` and `ancestor` are passed on one by one: Rust has no shorter form for it.
     fn last(&self) -> u32 {
         self.below.last()
     }

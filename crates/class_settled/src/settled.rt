@@ -48,6 +48,7 @@ impl SettledTable {
 impl ClassTable for SettledTable {
     ghost rows = { λ t. t };
 
+    // `last`, `entries` and `ancestor` are passed on one by one: Rust has no shorter form for it.
     fn last(&self) -> u32
         ensures last { result ≡ length self.now }
         ensures few { result ≤ 64 }

@@ -6,6 +6,7 @@ use crate::describe::Described;
 use list_reader::{Fault, Line, read_list};
 use std::alloc::{AllocError, Global};
 
+// No `Display`: a word that is quoted may be any bytes, and need not be text.
 /// What a line says.
 fn tell(heap: Global, line: &Line) -> Result<Vec<u8>, AllocError>
     ensures { IfOk result (λ text. text.items ≡ telling (said line.now)) }
