@@ -2,15 +2,15 @@ ghost use Rattle.std.specs.Prelude.{◌≡◌};
 ghost use Rattle.class_layer.specs.Layer.{looked_up, with_answer, no_answers};
 
 /// What find del answered for a class. A free place has 0 for both, which is right too: 0 is no class and has no del.
-#[derive(Clone, Copy)]
+#[derive(Clone, Copy, Debug)]
 pub struct Answer {
     class: u32,
     del: u32,
 }
 
-// A plain array, written through `&mut self`: no heap, and one place changes at a time.
 /// Up to 16 answers.
-#[derive(Clone, Copy)]
+// No `ArrayVec`: all 16 places are there from the start, and a free one answers rightly for class 0.
+#[derive(Clone, Copy, Debug)]
 pub struct Answers {
     kept: [Answer; 16],
     /// Where the next is put, once all places are taken in place of the oldest.
@@ -18,6 +18,7 @@ pub struct Answers {
 }
 
 impl Answers {
+    /// All places free.
     pub fn none() -> Answers
         ensures { result ≡ no_answers }
     {
@@ -27,6 +28,7 @@ impl Answers {
         }
     }
 
+    /// The answer that is kept for a class.
     pub fn look_up(&self, class: u32) -> Option<u32>
         ensures { result ≡ looked_up self.now.kept class }
     {
@@ -36,6 +38,7 @@ impl Answers {
             .map(|answer| answer.del)
     }
 
+    /// Puts one answer more in, in place of the oldest.
     pub fn keep(&mut self, class: u32, del: u32)
         ensures { self.new ≡ with_answer self.old class del }
     {
@@ -44,6 +47,7 @@ impl Answers {
         self.next = (place + 1) % 16;
     }
 
+    /// Frees all places.
     pub fn forget(&mut self)
         ensures { self.new ≡ no_answers }
     {

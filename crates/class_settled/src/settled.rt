@@ -9,7 +9,8 @@ use std::array;
 use std::marker::Model;
 
 /// Up to 64 rows, with the answer of find del for every number that a row can have.
-#[derive(Drop)]
+// The answers stand beside the rows and not in them: the rows are another table's own.
+#[derive(Debug, Drop)]
 pub struct SettledTable {
     rows: SearchingTable,
     answers: [u32; 64],

@@ -1,4 +1,4 @@
-ghost use Rattle.std.specs.Prelude.{◌≡◌, ◌-◌, ◌≤◌, min, ◌++◌, length, replicate, slice_index};
+ghost use Rattle.std.specs.Prelude.{◌≡◌, ◌↔◌, [], IsTrue, ◌-◌, ◌≤◌, min, ◌++◌, length, replicate, slice_index};
 ghost use Rattle.class_tables.specs.Kept.{first_eight};
 
 use std::array;
@@ -47,7 +47,14 @@ impl Ancestors {
         self.count
     }
 
+    pub fn is_empty(&self) -> bool
+        ensures { IsTrue result ↔ (self.now ≡ []) }
+    {
+        self.len() == 0
+    }
+
     /// The ancestor at a position; 0 behind the last.
+    // No `Option`: by the rules 0 is no class.
     pub fn at(&self, position: usize) -> u32
         ensures value { result ≡ slice_index self.now position }
         ensures beyond { 8 ≤ position → result ≡ 0 }

@@ -9,7 +9,7 @@ use refusal::{Fault, Refusal};
 use std::marker::Model;
 
 /// Up to 64 rows.
-#[derive(Drop)]
+#[derive(Debug, Drop)]
 pub struct SearchingTable {
     rows: ArrayVec<ClassRow, 64>,
 }

@@ -1,4 +1,5 @@
 /// What is read of a class, but for the ancestors themselves.
+// Not one type with a table's own rows: those have ancestors, and this counts them.
 #[derive(Clone, Copy, Debug, Default, PartialEq, Eq)]
 pub struct Entries {
     /// How many slots objects of the class have.

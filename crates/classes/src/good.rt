@@ -4,6 +4,7 @@ ghost use Rattle.classes.specs.Rows.{class_at, known, all_known, good_row, plain
 use crate::{ClassTable, Entries};
 
 /// Whether the class is the number of a row.
+// This and what follows are no methods of the trait: no table has a better way to look at its rows.
 pub fn is_known<T: ClassTable>(table: &T, class: u32) -> bool
     ensures { result ≡ known (T.rows table.now) class }
 {

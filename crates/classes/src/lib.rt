@@ -25,8 +25,8 @@ pub trait ClassTable {
     fn entries(&self, class: u32) -> Entries
         ensures { result ≡ entries_of (class_at (rows self.now) class) };
 
-    // No `Option` here and in `find_del`: by the rules 0 is no class.
     /// The ancestor at a position; 0 behind the last.
+    // No `Option` here and in `find_del`: by the rules 0 is no class.
     fn ancestor(&self, class: u32, position: usize) -> u32
         ensures { result ≡ slice_index (class_at (rows self.now) class).ancestors position };
 

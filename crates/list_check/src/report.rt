@@ -6,8 +6,8 @@ use crate::describe::Described;
 use list_reader::{Fault, Line, read_list};
 use std::alloc::{AllocError, Global};
 
-// No `Display`: a word that is quoted may be any bytes, and need not be text.
 /// What a line says.
+// No `Display`: a word that is quoted may be any bytes, and need not be text.
 fn tell(heap: Global, line: &Line) -> Result<Vec<u8>, AllocError>
     ensures { IfOk result (λ text. text.items ≡ telling (said line.now)) }
 {

@@ -39,7 +39,7 @@ said line = outcome line (λ call. Asks (asked call))
 abbrev pub Reads : {X : Type 0} → Type 0 → Said → Result X ReadError → (X → Said) → Type 0
 Reads short_of_memory line (Ok x) then = line ≡ then x
 Reads short_of_memory line (Err (error.Fault fault)) then = line ≡ faulty fault
-Reads short_of_memory line (Err error.Memory) then = short_of_memory
+Reads short_of_memory line (Err (error.Memory wanting)) then = short_of_memory
 
 -- only a make can want memory
 abbrev pub Makes : List ℕ → Type 0

@@ -1,4 +1,5 @@
 /// A call that a line asks for. Objects, references, callbacks and dictionaries go by name; 0 is none.
+// No `Option`: in lists too 0 is a number that is written.
 #[derive(PartialEq, Eq, Debug, Drop)]
 pub enum Call {
     /// Says whether a host is present.

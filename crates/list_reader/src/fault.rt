@@ -1,7 +1,7 @@
 ghost use Rattle.std.specs.Prelude.{◌≡◌};
 ghost use Rattle.list_reader.specs.declared.fault.ReadError.TheVariants as error;
 
-use std::alloc::AllocFailed;
+use std::alloc::{AllocError, AllocFailed};
 
 /// Why a line gives no call.
 #[derive(Clone, Copy, PartialEq, Eq, Debug)]
@@ -17,7 +17,7 @@ pub enum Fault<'a> {
 pub enum ReadError<'a> {
     Fault(Fault<'a>),
     /// No memory for the edges.
-    Memory,
+    Memory(AllocError),
 }
 
 impl<'a> From<Fault<'a>> for ReadError<'a> {
@@ -29,9 +29,9 @@ impl<'a> From<Fault<'a>> for ReadError<'a> {
 }
 
 impl<'a, T: Drop> From<AllocFailed<T>> for ReadError<'a> {
-    ghost from_gives = { λ _ e. e ≡ error.Memory };
+    ghost from_gives = { λ _ e. (wanting : _) × (e ≡ error.Memory wanting) };
 
-    fn from(_error: AllocFailed<T>) -> ReadError<'a> {
-        ReadError::Memory
+    fn from(error: AllocFailed<T>) -> ReadError<'a> {
+        ReadError::Memory(error.into())
     }
 }

@@ -19,7 +19,7 @@ fn read_line(heap: Global, line: &[u8]) -> Result<Line<'_>, AllocError>
     match read_call(heap, line) {
         Ok(call) => Ok(Ok(call)),
         Err(ReadError::Fault(fault)) => Ok(Err(fault)),
-        Err(ReadError::Memory) => Err(AllocError),
+        Err(ReadError::Memory(error)) => Err(error),
     }
 }
 

@@ -1,5 +1,6 @@
-ghost use Rattle.std.specs.Prelude.{◌≡◌};
-ghost use Rattle.list_reader.specs.Calls.{Asks, make, weaken, says};
+ghost use Rattle.std.specs.Prelude.{◌≡◌, ℕ, ◌^◌, ◌<◌};
+ghost use Rattle.list_reader.specs.Calls as calls;
+ghost use Rattle.list_reader.specs.Calls.{Asks, make, weaken, says, single};
 ghost use Rattle.list_reader.specs.Readings.{asked, said, Reads, Makes};
 
 use crate::arguments::{edges, last_number, next_number};
@@ -34,6 +35,14 @@ fn weaken<'a>(mut words: Cursor<'a>) -> Result<Call, Fault<'a>>
     })
 }
 
+/// A call that takes one number.
+fn single<'a, F: FnOnce(u32) -> Call>(words: Cursor<'a>, call: F) -> Result<Call, Fault<'a>>
+    requires { F.IsAlwaysCallable call }
+    ensures { (made : ℕ → calls.Call) → ((n : ℕ) (c : Call) → n < 2 ^ 32 → F.post call n c → asked c ≡ made n) → single made words.entry ≡ said result }
+{
+    Ok(call(last_number(words)?))
+}
+
 /// The call that a line asks for.
 pub fn read_call(heap: Global, line: &[u8]) -> Result<Call, ReadError<'_>>
     ensures { Reads (Makes line.now) (says line.now) result (λ call. Asks (asked call)) }
@@ -44,26 +53,14 @@ pub fn read_call(heap: Global, line: &[u8]) -> Result<Call, ReadError<'_>>
         return Err(Fault::Unreadable(word).into());
     };
     match letter as char {
-        'a' => Ok(Call::Attend {
-            host: last_number(words)? != 0,
-        }),
+        'a' => Ok(single(words, |number| Call::Attend { host: number != 0 })?),
         'm' => make(heap, words),
-        'h' => Ok(Call::Hold {
-            object: last_number(words)?,
-        }),
-        'd' => Ok(Call::Drop {
-            object: last_number(words)?,
-        }),
+        'h' => Ok(single(words, |object| Call::Hold { object })?),
+        'd' => Ok(single(words, |object| Call::Drop { object })?),
         'w' => Ok(weaken(words)?),
-        'u' => Ok(Call::Upgrade {
-            reference: last_number(words)?,
-        }),
-        'i' => Ok(Call::Intern {
-            object: last_number(words)?,
-        }),
-        'b' => Ok(Call::HandBack {
-            turn: last_number(words)?,
-        }),
+        'u' => Ok(single(words, |reference| Call::Upgrade { reference })?),
+        'i' => Ok(single(words, |object| Call::Intern { object })?),
+        'b' => Ok(single(words, |turn| Call::HandBack { turn })?),
         _ => Err(Fault::Unreadable(word).into()),
     }
 }

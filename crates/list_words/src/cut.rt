@@ -1,6 +1,7 @@
 ghost use Rattle.std.specs.Prelude.{◌≡◌, ◌≤◌, length, position, ◌==◌};
 ghost use Rattle.list_words.specs.Pieces.{Cut};
 
+/// Where the first `separator` stands.
 fn find(bytes: &[u8], separator: u8) -> Option<usize>
     ensures { result ≡ position (λ b. b == separator) bytes.now }
 {
@@ -8,6 +9,7 @@ fn find(bytes: &[u8], separator: u8) -> Option<usize>
 }
 
 /// What stands before the first `separator`, and what behind it if there is one.
+// No `slice::split`: its contract says how many parts there are, and not which.
 pub fn cut(bytes: &[u8], separator: u8) -> (&[u8], Option<&[u8]>)
     ensures { Cut separator bytes.now result.0.now result.1 }
 {

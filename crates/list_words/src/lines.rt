@@ -9,7 +9,7 @@ use std::marker::Model;
 pub const LIMIT: usize = 65536;
 
 /// Goes through a list line by line. Each line comes without its newline.
-#[derive(Drop)]
+#[derive(Debug, Drop)]
 pub struct Lines<'a> {
     rest: &'a [u8],
 }

@@ -11,8 +11,8 @@ fn with_digit(value: u32, byte: u8) -> Option<u32>
     }
 }
 
-// No `parse`: it takes a sign, and a word may be any bytes.
 /// The decimal number that a word writes, if it writes one of 32 bits.
+// No `parse`: it takes a sign and asks for text, so two tests of the bytes would stand before it.
 pub fn number(word: &[u8]) -> Option<u32>
     ensures { result ≡ number word.now }
 {

@@ -7,8 +7,8 @@ use crate::cut::cut;
 use crate::number::number;
 use std::marker::Model;
 
-// Not a `Result`: a word that is no number is no error.
 /// A word of a line, as the cursor yields it.
+// No `Option` beside the bytes: who reads a word asks first which of the two it is.
 #[derive(Clone, Copy, PartialEq, Eq, Debug)]
 pub enum Word<'a> {
     /// A decimal number of 32 bits, and the bytes that write it.
@@ -18,7 +18,7 @@ pub enum Word<'a> {
 }
 
 /// Goes through a line word by word.
-#[derive(Drop)]
+#[derive(Debug, Drop)]
 pub struct Cursor<'a> {
     rest: Option<&'a [u8]>,
 }

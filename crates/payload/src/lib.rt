@@ -16,8 +16,8 @@ pub use kinds::{Cell, Mixed, Note, Row};
 pub trait Payload {
     ghost meaning: { Self → Meaning };
 
-    // A number and no enum: whoever writes a payload picks its kind.
     /// Which kind of payload it is, above 1.
+    // A number and no enum: whoever writes a payload picks its kind.
     fn kind(&self) -> u32
         ensures { result ≡ (meaning self.now).kind };
 
@@ -29,8 +29,8 @@ pub trait Payload {
     fn width(&self) -> u32
         ensures { result ≡ length (meaning self.now).edges };
 
-    // No `Option`: 0 for none is the rules' own number.
     /// The edge at a position, a birth or 0 for none; 0 also beyond the width.
+    // No `Option`: 0 for none is the rules' own number.
     fn edge(&self, position: u32) -> u32
         ensures { result ≡ slice_index (meaning self.now).edges position };
 
