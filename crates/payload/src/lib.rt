@@ -9,6 +9,8 @@ mod kinds;
 mod mixed;
 mod notes;
 mod rows;
+#[cfg(test)]
+mod tests;
 
 pub use kinds::{Cell, Mixed, Note, Row};
 
