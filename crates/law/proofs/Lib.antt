@@ -2,3 +2,4 @@ pub mod Invariant
 pub mod Moves
 pub mod Steps
 pub mod Granted
+pub mod Holds
