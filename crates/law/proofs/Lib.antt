@@ -3,3 +3,5 @@ pub mod Moves
 pub mod Steps
 pub mod Granted
 pub mod Holds
+pub mod Handed
+pub mod Births
