@@ -1,7 +1,7 @@
 -- A new object keeps the invariant.
-use Rattle.std.proofs.Common.{◌≡◌, ℕ, zero, suc, ◌+◌, ◌<◌, ◌≤◌, false, eqb, ◌⊎◌, List, [], ◌∷◌, length, inl, inr, arith}
+use Rattle.std.proofs.Common.{◌≡◌, ℕ, suc, ◌+◌, ◌<◌, ◌≤◌, false, eqb, ◌⊎◌, List, [], ◌∷◌, length, inl, inr, arith}
 use Rattle.std.proofs.lemmas.Bool.{ne_eqb}
-use Rattle.definition.specs.Base.{put, bit, count, sum_to}
+use Rattle.definition.specs.Base.{put, bit, count}
 use Rattle.definition.specs.State.{Phase, Absent, Resting, Shape, State, is_unfreed, is_open}
 use Rattle.definition.specs.Changes.{born}
 use Rattle.definition.proofs.Sums.{same, point, sum_same, count_length}

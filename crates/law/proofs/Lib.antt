@@ -5,3 +5,4 @@ pub mod Granted
 pub mod Holds
 pub mod Handed
 pub mod Births
+pub mod Makes
