@@ -15,9 +15,11 @@ nobody : {p : Phase} {s m h q l w e r g k : ℕ} → p ≡ Absent → Good p s m
 nobody e i = let q = rw e at i in (omega (arith, q), omega (arith, q), omega (arith, q), omega (arith, q), omega (arith, q), omega (arith, q), omega (arith, q), omega (arith, q))
 
 module _ (shape : Shape) (places : List ℕ) (callback : ℕ) (s : State) (owed : List ℕ) (i : Inv s owed) where
+  -- the next birth is nobody's yet
   absent : s.phase s.next ≡ Absent
   absent = i.frame.fresh s.next (inr (omega arith))
 
+  -- so nothing names it
   bare : (s.strong s.next ≡ 0) × (bit (s.interned s.next) ≡ 0) × (placed s s.next ≡ 0) × (lent s s.next ≡ 0) × (count s.next owed ≡ 0) × (length (s.held s.next) ≡ 0) × (length (s.giving s.next) ≡ 0) × (count s.next s.stack ≡ 0)
   bare = nobody absent (i.good s.next i.frame.first)
 
@@ -39,6 +41,7 @@ module _ (shape : Shape) (places : List ℕ) (callback : ℕ) (s : State) (owed 
       let none : lent_by s y s.next ≡ 0 = omega (arith, count_length y (s.held s.next), count_length y (s.giving s.next)) in
       omega arith
 
+  -- one object more is unfreed, and no turn opens
   born_frame : s.unfreed < s.capacity → Framed (born shape places callback s)
   unfolding unfreed_sum open_sum
   born_frame room =

@@ -38,6 +38,7 @@ unmet (g ∷ gs) e = (own_first g gs e, unmet gs (own_rest g gs e))
 
 -- ---- make
 
+-- what an accepted make changes keeps the invariant
 pub make_effect : (class dictionary : ℕ) (payload : Meaning) (s : State) → Inv s [] → Granted (Make class dictionary payload) s → Inv (own_change (outcome (Make class dictionary payload) s)) []
 unfolding outcome lent
 make_effect class dictionary payload s i g =
@@ -53,7 +54,7 @@ make_effect class dictionary payload s i g =
 
 -- ---- weaken
 
--- a new reference
+-- a new reference: it is at the front of its referent's list, since its birth is above all others
 new_effect : (class o callback dictionary : ℕ) (s : State) → Inv s [] → Granted (Weaken class o callback dictionary) s → reused s class o callback ≡ false → Inv (new_reference class o callback dictionary (handed (Weaken class o callback dictionary) s)) []
 unfolding lent Falling
 new_effect class o callback dictionary s i g re =
@@ -88,6 +89,7 @@ reused_bare class o callback dictionary s i g re =
     let plain : (class_at s.classes class).dictionary ≡ false = rw (eqb-true class 1 e.0) i.frame.plain in
     (eqb-true callback 0 e.1, eqb-true dictionary 0 (not-false (eqb dictionary 0) (rw plain at own.1.1.0)))
 
+-- what an accepted weaken changes keeps the invariant
 pub weaken_effect : (class o callback dictionary : ℕ) (s : State) → Inv s [] → Granted (Weaken class o callback dictionary) s → Inv (own_change (outcome (Weaken class o callback dictionary) s)) []
 unfolding outcome
 weaken_effect class o callback dictionary s i g =
