@@ -6,3 +6,4 @@ pub mod Holds
 pub mod Handed
 pub mod Births
 pub mod Makes
+pub mod Effects
