@@ -253,7 +253,8 @@ module _ (s : State) (owed : List ℕ) (x : ℕ) (pos : 0 < x) (i : Inv s (x ∷
         },
       )
 
-none_inv : (s : State) (owed : List ℕ) → Inv s (0 ∷ owed) → Inv s owed
+-- 0 names nobody, so it is owed to nobody
+pub none_inv : (s : State) (owed : List ℕ) → Inv s (0 ∷ owed) → Inv s owed
 none_inv s owed i = record { good = λ y py. rw (ne_eqb y 0 (λ q. omega arith)) at (i.good y py); zeroth = i.zeroth; lists = i.lists; frame = i.frame }
 
 pub give_up_inv : (s : State) (owed : List ℕ) (x : ℕ) → Inv s (x ∷ owed) → Inv (give_up x s) owed

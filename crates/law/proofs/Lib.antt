@@ -7,3 +7,4 @@ pub mod Handed
 pub mod Births
 pub mod Makes
 pub mod Effects
+pub mod Exchanges
