@@ -8,3 +8,4 @@ pub mod Births
 pub mod Makes
 pub mod Effects
 pub mod Exchanges
+pub mod Backs
