@@ -1,5 +1,5 @@
 -- Calls that put a content into a place keep the invariant.
-use Rattle.std.proofs.Common.{◌≡◌, ℕ, suc, ◌+◌, ◌-◌, ◌<◌, ◌≤◌, true, eqb, ltb, leb, ◌⊎◌, List, [], ◌∷◌, length, get_or, set, refl, ap, subst, inl, inr, arith}
+use Rattle.std.proofs.Common.{◌≡◌, ℕ, suc, ◌+◌, ◌<◌, ◌≤◌, true, eqb, ltb, leb, ◌⊎◌, List, [], ◌∷◌, length, get_or, set, refl, ap, subst, inl, inr, arith}
 use Rattle.std.proofs.lemmas.Bool.{ne_eqb, eqb-false, cases_eq, cond_both, cases_lt, ltb-true, ltb-false, leb-false}
 use Rattle.std.proofs.lemmas.List.{get_or_past}
 use Rattle.refusal.specs.declared.Refusal.TheVariants.{NoPlace, ListShort}
@@ -14,6 +14,7 @@ use Rattle.law.proofs.Invariant.{emptied, Good, placed, lent, GoodAt, Inv, betwe
 use Rattle.law.proofs.Moves.{places_inv}
 use Rattle.law.proofs.Granted.{Granted, own_first, names_live}
 use Rattle.law.proofs.Handed.{handed_inv}
+use Rattle.law.proofs.Shapes.{Shaped}
 
 -- of a live object nothing has to be empty
 live_full : (p : Phase) (l : List ℕ) (c : ℕ) → is_live p ≡ true → emptied p l c ≡ 0
@@ -76,17 +77,14 @@ exchanged_inv s o k v i few l h = gained_inv (with_places o (set (s.places o) k 
 
 -- ---- the calls
 
--- an edge is swapped
+-- an edge changes
 pub swap_effect : (o edge v : ℕ) (s : State) → Inv s [] → Granted (Swap o edge v) s → Inv (own_change (outcome (Swap o edge v) s)) []
 unfolding outcome
 swap_effect o edge v s i g =
     let h = leb-false (length (s.places o)) (edge_place s o edge) (own_first (at_argument NoPlace 2 (leb (length (s.places o)) (edge_place s o edge))) [] g.own) in
     exchanged_inv (handed (Swap o edge v) s) o (edge_place s o edge) v (handed_inv (Swap o edge v) s i g.owned) (few_handed (Swap o edge v) s i) (names_live s o g.named.0 g.living.0) h
 
--- the slots stand among the places, behind the dictionary
-abbrev pub Shaped : State → Type 0
-Shaped s = (o : ℕ) → (s.shape o).slots ≤ length (s.places o) - 1
-
+-- a slot changes
 pub store_effect : (o slot v : ℕ) (s : State) → Inv s [] → Shaped s → Granted (Store o slot v) s → Inv (own_change (outcome (Store o slot v) s)) []
 unfolding outcome
 store_effect o slot v s i sh g =
@@ -101,6 +99,7 @@ within l k ne = go (cases_lt k (length l))
     go (inl h) = h
     go (inr h) = absurd (ne (get_or_past l k 0 h))
 
+-- the dictionary changes, and the old one is given up
 pub set_dictionary_effect : (o dictionary lent : ℕ) (s : State) → Inv s [] → Granted (SetDictionary o dictionary lent) s → Inv (own_change (outcome (SetDictionary o dictionary lent) s)) []
 unfolding outcome
 set_dictionary_effect o dictionary lent s i g =

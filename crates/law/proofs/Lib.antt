@@ -9,3 +9,4 @@ pub mod Makes
 pub mod Effects
 pub mod Exchanges
 pub mod Backs
+pub mod Shapes
