@@ -10,3 +10,4 @@ pub mod Effects
 pub mod Exchanges
 pub mod Backs
 pub mod Shapes
+pub mod Others
