@@ -81,6 +81,7 @@ module _ (s : State) (i : Inv s []) (some : 0 < s.turns) (o : ℕ) (below : List
   back_inv (Freeing k) ph e = let z : ◌≡◌ {A = ℕ} 0 1 = cc in absurd (omega arith)
   back_inv Leaving ph e = let z : ◌≡◌ {A = ℕ} 0 1 = cc in absurd (omega arith)
 
+-- where no work is left, and a turn is open
 newest_inv : (s : State) → Inv s [] → rests s ≡ true → 0 < s.turns → (l : List ℕ) → s.stack ≡ l → Inv (newest_back l s) []
 newest_inv s i r some [] st = i
 newest_inv s i r some (o ∷ below) st = back_inv s i some o below st (s.phase o) refl (rw st at r)
@@ -95,6 +96,7 @@ turn_open turn turns e =
     go (inl q) ne e = absurd (ne q)
     go (inr ne) _ e = omega arith
 
+-- the newest turn ends
 pub hand_back_effect : (turn lent : ℕ) (s : State) → Inv s [] → rests s ≡ true → Granted (HandBack turn lent) s → Inv (own_change (outcome (HandBack turn lent) s)) []
 unfolding outcome
 hand_back_effect turn lent s i r g =

@@ -17,6 +17,7 @@ use Rattle.law.proofs.Handed.{handed_inv}
 
 -- ---- calls that change no count
 
+-- a host attends, or no longer
 pub attend_effect : (host : Bool) (s : State) → Inv s [] → Granted (Attend host) s → Inv (own_change (outcome (Attend host) s)) []
 unfolding outcome placed lent
 attend_effect host s i g = record { good = i.good; zeroth = i.zeroth; lists = i.lists; frame = i.frame }
@@ -34,6 +35,7 @@ marked {p = (Calling c x)} m' i l z = let y : ◌≡◌ {A = ℕ} 0 1 = cc in ab
 marked {p = (Freeing n)} m' i l z = let y : ◌≡◌ {A = ℕ} 0 1 = cc in absurd (omega arith)
 marked {p = Leaving} m' i l z = let y : ◌≡◌ {A = ℕ} 0 1 = cc in absurd (omega arith)
 
+-- an object gets its mark
 pub intern_effect : (o : ℕ) (s : State) → Inv s [] → Granted (Intern o) s → Inv (own_change (outcome (Intern o) s)) []
 unfolding outcome placed lent
 intern_effect o s i g =
@@ -48,6 +50,7 @@ intern_effect o s i g =
 
 -- ---- a handle is given up
 
+-- the host gives up a handle
 pub drop_effect : (o lent : ℕ) (s : State) → Inv s [] → Granted (Drop o lent) s → Inv (own_change (outcome (Drop o lent) s)) []
 unfolding outcome
 drop_effect o lent s i g = give_up_inv _ [] o (handed_inv (Drop o lent) s i g.owned)
@@ -71,6 +74,7 @@ flag_only rows c d b =
     by (suc i) zero = refl
     by (suc i) (suc j) = at rows i j
 
+-- a class gets a del, or loses it
 pub set_del_effect : (class : ℕ) (del : Bool) (s : State) → Inv s [] → Granted (SetDel class del) s → Inv (own_change (outcome (SetDel class del) s)) []
 unfolding outcome placed lent
 set_del_effect class del s i g =
@@ -103,6 +107,7 @@ counted_name s owed i o c = go (cases_eq o 0)
     go (inl q) = absurd (omega (arith, i.zeroth, ap s.strong q, ap (λ (n : ℕ). bit (s.interned n)) q))
     go (inr ne) = omega arith
 
+-- the host gets a handle of an object that is counted or marked
 pub hold_inv : (s : State) (owed : List ℕ) → Inv s owed → (o : ℕ) → 0 < s.strong o + bit (s.interned o) → s.strong o < 65535 → Inv (hold o s) owed
 unfolding placed lent
 hold_inv s owed i o c n =
@@ -122,10 +127,12 @@ not_full s o e = omega (arith, leb-false 65535 (s.strong o) e)
 live_has : (s : State) (owed : List ℕ) → Inv s owed → (o : ℕ) → is_live (s.phase o) ≡ true → 0 < s.strong o + bit (s.interned o)
 live_has s owed i o l = live_counted (i.good o (between s owed i o (live_born (s.phase o) l)).0) l
 
+-- of the object that the call names
 pub hold_effect : (o : ℕ) (s : State) → Inv s [] → Granted (Hold o) s → Inv (own_change (outcome (Hold o) s)) []
 unfolding outcome
 hold_effect o s i g = hold_inv s [] i o (live_has s [] i o (names_live s o g.named.0 g.living.0)) (not_full s o (own_first (at_none CountFull (count_full s o)) [] g.own))
 
+-- of the referent, if it answers
 pub upgrade_effect : (w : ℕ) (s : State) → Inv s [] → Granted (Upgrade w) s → Inv (own_change (outcome (Upgrade w) s)) []
 unfolding outcome
 upgrade_effect w s i g =
@@ -140,6 +147,7 @@ upgrade_effect w s i g =
 
 -- ---- the references that a round would hold
 
+-- those of a falling list fall
 falling_those : (test : ℕ → Bool) (n : ℕ) (l : List ℕ) → Falling n l → Falling n (those test l)
 unfolding Falling
 falling_those test n [] f = tt
@@ -159,6 +167,7 @@ unfolding Falling
 all_still s n o [] f h a = tt
 all_still s n o (w ∷ ws) f h a = (rw (ne_eqb w o (λ q. omega (arith, f.0))) a.0, rw (ne_eqb w o (λ q. omega (arith, f.0))) a.1, all_still s w o ws f.1 (omega (arith, f.0)) a.2)
 
+-- the host gets a handle of each of a falling list
 hold_all_inv : (n : ℕ) (l : List ℕ) (s : State) (owed : List ℕ) → Inv s owed → Falling n l → AllHeld s l → Inv (hold_all l s) owed
 unfolding Falling
 hold_all_inv n [] s owed i f a = i
@@ -176,6 +185,7 @@ all_held s (w ∷ ws) e = go (not (spent s w)) refl e (λ r. all_held s ws r)
     go true q e more = let p = or_parts (count_full s w) (any_full s rest) e in (not_spent (s.strong w) (s.interned w) (not-true (spent s w) q), not_full s w p.0, more p.1)
     go false q e more = more e
 
+-- of each reference that stands
 pub list_effect : (o lent : ℕ) (s : State) → Inv s [] → Granted (ListWeak o lent) s → Inv (own_change (outcome (ListWeak o lent) s)) []
 unfolding outcome
 list_effect o lent s i g =

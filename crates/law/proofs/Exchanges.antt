@@ -31,6 +31,7 @@ live_full Leaving l c e = let z : ◌≡◌ {A = ℕ} 0 1 = cc in absurd (omega 
 abbrev pub Few : State → Type 0
 Few s = (y : ℕ) → 0 < y → s.strong y ≤ 65535 + lent s y
 
+-- a call that takes handles over keeps it
 few_handed : (c : Call) (s : State) → Inv s [] → Few (handed c s)
 unfolding lent
 few_handed c s i y py = omega (arith, (i.good y py).few)
@@ -44,6 +45,7 @@ placed_inv s v o k i few l h =
     places_inv s (v ∷ []) i o b.0 b.1 (set (s.places o) k v) (get_or (s.places o) k 0 ∷ []) (λ y py. omega (arith, count_set y (s.places o) k v h)) (λ y py. omega (arith, few y py)) (live_full (s.phase o) (set (s.places o) k v) (s.callback o) l)
 
 -- what is owed becomes a handle
+-- one object's numbers when one that is owed becomes a handle
 becomes_handle : {p : Phase} {s m h q l w e r g k : ℕ} → Good p s m h q l (suc w) e r g k → s ≤ 65535 + l + w → Good p s m (h + 1) q l w e r g k
 becomes_handle i n = retold _ _ _ _ i (omega arith) n
 
@@ -68,10 +70,12 @@ gained_inv s x i few = cond_both (loose s x) (with_handles x (s.handles x + 1) s
           frame = i.frame;
         }
 
+-- a change of places keeps it
 few_placed : (s : State) (o : ℕ) (l : List ℕ) → Few s → Few (with_places o l s)
 unfolding lent
 few_placed s o l few = few
 
+-- v, which was owed, goes into a place, and what was there becomes a handle
 pub exchanged_inv : (s : State) (o k v : ℕ) → Inv s (v ∷ []) → Few s → is_live (s.phase o) ≡ true → k < length (s.places o) → Inv (exchanged o k v s) []
 exchanged_inv s o k v i few l h = gained_inv (with_places o (set (s.places o) k v) s) (get_or (s.places o) k 0) (placed_inv s v o k i few l h) (few_placed s o (set (s.places o) k v) few)
 

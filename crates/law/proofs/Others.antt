@@ -52,11 +52,13 @@ effect_inv_other (HandBack turn lent) n s i sh r g = hand_back_effect turn lent 
 
 -- ---- what follows a call
 
+-- the steps that follow keep the invariant
 pub settle_inv : (n : ℕ) (s : State) → Inv s [] → Inv (settle n s) []
 unfolding settle
 settle_inv zero s i = i
 settle_inv (suc n) s i = settle_inv n (advance s) (advance_inv s i)
 
+-- and so does what follows a call's own change
 pub after_inv : (out : Outcome) → Inv (own_change out) [] → Inv (after out) []
 unfolding settled
 after_inv (Answers number listed s) i = i
@@ -78,10 +80,12 @@ same_waits : (l : List ℕ) (s t : State) → ((o : ℕ) (below : List ℕ) → 
 same_waits [] s t h r = r
 same_waits (o ∷ below) s t h r = rw (h o below refl) r
 
+-- handles let no death go on
 hold_all_rests : (l : List ℕ) (s : State) → rests s ≡ true → rests (hold_all l s) ≡ true
 hold_all_rests [] s r = r
 hold_all_rests (o ∷ os) s r = hold_all_rests os (hold o s) (same_waits s.stack s (hold o s) (λ p below st. refl) r)
 
+-- nor does an exchange
 exchanged_rests : (s : State) (o k v : ℕ) → rests s ≡ true → rests (exchanged o k v s) ≡ true
 exchanged_rests s o k v r =
     let x = content s o k in

@@ -20,6 +20,7 @@ Shaped s = (o : ℕ) → (s.shape o).slots ≤ length (s.places o) - 1
 
 -- ---- deaths
 
+-- giving up a reference changes no place
 pub give_up_shaped : (s : State) (x : ℕ) → Shaped s → Shaped (give_up x s)
 give_up_shaped s x h = give_up_cases s x Shaped (λ lo. h) (λ lo e. h) (λ lo ph e. (λ a. h, λ a. h))
 
@@ -27,15 +28,18 @@ give_up_shaped s x h = give_up_cases s x Shaped (λ lo. h) (λ lo e. h) (λ lo p
 set_shaped : (s : State) (o k v : ℕ) → Shaped s → Shaped (with_places o (set (s.places o) k v) s)
 set_shaped s o k v h = point (λ y. (s.shape y).slots ≤ length (put s.places o (set (s.places o) k v) y) - 1) o (rw (same o, length-set (s.places o) k v) (h o)) (λ y ne. rw (ne_eqb y o ne) (h y))
 
+-- nor does a round
 takes_shaped : (s : State) (o w : ℕ) (rest : List ℕ) → Shaped s → Shaped (takes w rest o s)
 takes_shaped s o w rest h = cond_both (spent s w) _ _ Shaped (λ e. h) (λ e. h)
 
 drains_shaped : (s : State) (o w : ℕ) (rest : List ℕ) → Shaped s → Shaped (drains w rest o s)
 drains_shaped s o w rest h = cond_both (s.attends && not (eqb (s.callback w) 0)) _ _ Shaped (λ e. h) (λ e. h)
 
+-- a freed object has neither places nor slots
 frees_shaped : (s : State) (o : ℕ) (below : List ℕ) → Shaped s → Shaped (leaving o below s)
 frees_shaped s o below h = point (λ y. ((leaving o below s).shape y).slots ≤ length ((leaving o below s).places y) - 1) o (rw (same o) (omega arith)) (λ y ne. rw (ne_eqb y o ne) (h y))
 
+-- each step of a death keeps it
 pub advance_shaped : (s : State) → Shaped s → Shaped (advance s)
 advance_shaped s h = advance_cases s Shaped (record {
   idle = λ r. h;
@@ -49,6 +53,7 @@ advance_shaped s h = advance_cases s Shaped (record {
   frees = λ o below top gv ph. frees_shaped s o below h;
 })
 
+-- and so do all that follow
 pub settle_shaped : (n : ℕ) (s : State) → Shaped s → Shaped (settle n s)
 unfolding settle
 settle_shaped zero s h = h
@@ -56,19 +61,23 @@ settle_shaped (suc n) s h = settle_shaped n (advance s) (advance_shaped s h)
 
 -- ---- calls
 
+-- handles change no place
 hold_all_shaped : (l : List ℕ) (s : State) → Shaped s → Shaped (hold_all l s)
 hold_all_shaped [] s h = h
 hold_all_shaped (o ∷ os) s h = hold_all_shaped os (hold o s) h
 
+-- an exchange keeps how many places there are
 exchanged_shaped : (s : State) (o k v : ℕ) → Shaped s → Shaped (exchanged o k v s)
 exchanged_shaped s o k v h = let u = with_places o (set (s.places o) k v) s in cond_both (loose u (content s o k)) _ u Shaped (λ e. set_shaped s o k v h) (λ e. set_shaped s o k v h)
 
+-- a new object has its slots
 new_length : (row : Class) (dictionary : ℕ) (edges : List ℕ) → slot_count row ≤ length (new_places row dictionary edges) - 1
 new_length row dictionary edges = omega (arith, length-append (replicate (slot_count row) 0) edges, length-replicate {A = ℕ} (slot_count row) 0)
 
 born_shaped : (shape : Shape) (l : List ℕ) (callback : ℕ) (s : State) → shape.slots ≤ length l - 1 → Shaped s → Shaped (born shape l callback s)
 born_shaped shape l callback s n h = point (λ y. ((born shape l callback s).shape y).slots ≤ length ((born shape l callback s).places y) - 1) s.next (rw (same s.next) n) (λ y ne. rw (ne_eqb y s.next ne) (h y))
 
+-- a hand back changes no place
 back_shaped : (s : State) (o : ℕ) (below : List ℕ) (p : Phase) → Shaped s → Shaped (handed_back p o below s)
 back_shaped s o below Absent h = h
 back_shaped s o below Resting h = h
@@ -83,6 +92,7 @@ newest_shaped : (l : List ℕ) (s : State) → Shaped s → Shaped (newest_back 
 newest_shaped [] s h = h
 newest_shaped (o ∷ below) s h = back_shaped (with_turns (s.turns - 1) s) o below (s.phase o) h
 
+-- each call's own change keeps it
 pub effect_shaped : (c : Call) (s : State) → Shaped s → Shaped (own_change (outcome c s))
 unfolding outcome
 effect_shaped (Make class dictionary payload) s h = born_shaped _ _ 0 (handed (Make class dictionary payload) s) (new_length (class_at s.classes class) dictionary payload.edges) h
@@ -106,6 +116,7 @@ unfolding settled
 after_shaped (Answers number listed s) h = h
 after_shaped (DeathsFollow left s) h = settle_shaped (work s) s h
 
+-- each call keeps it, refused or not
 pub call_shaped : (c : Call) (s : State) → Shaped s → Shaped (call c s)
 unfolding call
 call_shaped c s h = go (refusal c s)
@@ -114,5 +125,6 @@ call_shaped c s h = go (refusal c s)
     go None = after_shaped (outcome c s) (effect_shaped c s h)
     go (Some fault) = h
 
+-- a core opens with it
 pub opening_shaped : (capacity first : ℕ) (classes : List Class) → Shaped (opening capacity first classes)
 opening_shaped capacity first classes o = omega arith
