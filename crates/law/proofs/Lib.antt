@@ -1,7 +1,8 @@
+pub mod Granted
 pub mod Invariant
 pub mod Moves
+pub mod Runs
 pub mod Steps
-pub mod Granted
 pub mod Holds
 pub mod Handed
 pub mod Births
