@@ -1,17 +1,20 @@
 -- What holds of every core that a run comes to.
-use Rattle.std.proofs.Common.{◌≡◌, ℕ, zero, suc, ◌+◌, ◌<◌, ◌≤◌, Bool, true, false, not, ◌&&◌, eqb, ltb, ◌⊎◌, List, [], ◌∷◌, ◌++◌, length, set, sym, refl, ap, ◌∙◌, subst, inl, inr, arith, append_assoc}
-use Rattle.std.proofs.lemmas.Bool.{eqb-false, ne_eqb, and_parts, not-true, ltb-true, ltb-false, cond_both}
+use Rattle.std.proofs.Common.{◌≡◌, ℕ, zero, suc, ◌+◌, ◌<◌, ◌≤◌, true, false, not, ◌&&◌, eqb, ltb, Option, List, [], ◌∷◌, ◌++◌, length, set, Some, None, sym, refl, ap, ◌∙◌, subst, inl, arith, append_assoc}
+use Rattle.std.proofs.lemmas.Bool.{eqb-false, ne_eqb, and_parts, not-true, ltb-false, cond_both}
+use Rattle.refusal.specs.declared.Fault.{Fault}
 use Rattle.classes.specs.Rows.{Class, class_at, all_good, good_rows, plain_weak}
 use Rattle.definition.specs.Base.{bit, sum_to}
-use Rattle.definition.specs.State.{Shape, State, is_open}
+use Rattle.definition.specs.State.{State}
 use Rattle.definition.specs.Opening.{can_open, opening}
-use Rattle.definition.specs.Changes.{with_places, with_handles, born}
+use Rattle.definition.specs.Changes.{with_places, with_handles}
 use Rattle.definition.specs.Death.{loose, advance, waits, rests, settle, settled, work}
-use Rattle.definition.specs.Calls.{Call, Make, Hold, Drop, Store, Swap, SetDictionary, Weaken, Upgrade, ListWeak, Intern, Attend, SetDel, HandBack, Outcome, Answers, DeathsFollow, content, standing, reused, answering, handed, hold, hold_all, exchanged, new_reference, outcome, after}
+use Rattle.definition.specs.Calls.{Call, Make, Hold, Drop, Store, Swap, SetDictionary, Weaken, Upgrade, ListWeak, Intern, Attend, SetDel, HandBack, Outcome, Answers, DeathsFollow, content, standing, reused, answering, handed, hold, hold_all, exchanged, new_reference, refusal, outcome, after, state_after, call}
 use Rattle.definition.proofs.Sums.{count_other}
-use Rattle.law.specs.Run.{Step, Exchange, own_change, history}
+use Rattle.law.specs.Run.{Small, Step, Exchange, small_steps, own_change, following, steps_of, exchange, run, end, history}
 use Rattle.law.specs.Events.{Live, Every}
 use Rattle.law.specs.Law.{named_by, references, Counted}
+use Rattle.definition.proofs.Settles.{settled_rests}
+use Rattle.law.proofs.Granted.{Granted, granted}
 use Rattle.law.proofs.Invariant.{Falling, placed_by, lent_by, placed, lent, unfreed_sum, open_sum, Inv, live_born, live_counted}
 use Rattle.law.proofs.Moves.{lent_small}
 use Rattle.law.proofs.Steps.{tidy, on_top, advance_inv}
@@ -101,6 +104,10 @@ counted_at s i = record { counts = counts; handles = handles; live = live; width
 
 -- ---- over all steps
 
+-- the invariant holds before a step, and after it
+abbrev pub Kept : Step → Type 0
+Kept st = Inv st.before [] × Inv st.after []
+
 every_map : (P Q : Step → List Step → Type 0) → ((st : Step) (h : List Step) → P st h → Q st h) → (h : List Step) → Every P h → Every Q h
 unfolding Every
 every_map P Q f [] e = tt
@@ -163,3 +170,73 @@ outcome_rests (Intern o) s i = rests_as s _ refl (λ x. refl)
 outcome_rests (Attend host) s i = rests_as s _ refl (λ x. refl)
 outcome_rests (SetDel class del) s i = rests_as s _ refl (λ x. refl)
 outcome_rests (HandBack turn lent) s i = tt
+
+-- ---- a run, given that each call's own change keeps the invariant
+
+module _ (effect : (c : Call) (s : State) → Inv s [] → Granted c s → Inv (own_change (outcome c s)) []) where
+  pub call_inv : (c : Call) (s : State) → Inv s [] → Inv (call c s) []
+  unfolding call
+  call_inv c s i = go (refusal c s) refl
+    where
+      go : (r : Option Fault) → refusal c s ≡ r → Inv (state_after r (outcome c s) s) []
+      go None e = after_inv (outcome c s) (effect c s i (granted c s e))
+      go (Some fault) e = i
+
+  pub end_inv : (cs : List Call) (s : State) → Inv s [] → Inv (end cs s) []
+  unfolding end
+  end_inv [] s i = i
+  end_inv (c ∷ cs) s i = end_inv cs (call c s) (call_inv c s i)
+
+  -- after a call no work is left, if none was before
+  pub call_rests : (c : Call) (s : State) → Inv s [] → rests s ≡ true → rests (call c s) ≡ true
+  unfolding call
+  call_rests c s i w = go (refusal c s) refl
+    where
+      done : (out : Outcome) → StillRests s out → Inv (own_change out) [] → rests (after out) ≡ true
+      done (Answers number listed t) r j = r w
+      done (DeathsFollow left t) r j = settled_rests t (tidy t [] j)
+
+      go : (r : Option Fault) → refusal c s ≡ r → rests (state_after r (outcome c s) s) ≡ true
+      go None e = done (outcome c s) (outcome_rests c s i) (effect c s i (granted c s e))
+      go (Some fault) e = w
+
+  end_rests_from : (cs : List Call) (s : State) → Inv s [] → rests s ≡ true → rests (end cs s) ≡ true
+  unfolding end
+  end_rests_from [] s i w = w
+  end_rests_from (c ∷ cs) s i w = end_rests_from cs (call c s) (call_inv c s i) (call_rests c s i w)
+
+  pub end_rests : (capacity first : ℕ) (classes : List Class) → can_open capacity first classes ≡ true → (cs : List Call) → rests (end cs (opening capacity first classes)) ≡ true
+  end_rests capacity first classes e cs = end_rests_from cs (opening capacity first classes) (opening_inv capacity first classes e) refl
+
+  -- ---- at every moment of a run
+
+  small_steps_inv : (n : ℕ) (s : State) → Inv s [] → Every (λ st h. Kept st) (small_steps n s)
+  unfolding Every
+  small_steps_inv zero s i = tt
+  small_steps_inv (suc n) s i =
+      cond_both (rests s) [] (small_steps n (advance s) ++ (record { what = Small; before = s; after = advance s } ∷ [])) (Every (λ st h. Kept st))
+      (λ e. tt)
+      (λ e. every_append Kept (small_steps n (advance s)) _ (small_steps_inv n (advance s) (advance_inv s i)) ((i, advance_inv s i), tt))
+
+  steps_inv : (c : Call) (s : State) → Inv s [] → Every (λ st h. Kept st) (steps_of (refusal c s) c s)
+  unfolding Every
+  steps_inv c s i = go (refusal c s) refl
+    where
+      follows : (out : Outcome) → Inv (own_change out) [] → Every (λ st h. Kept st) (following out)
+      follows (Answers number listed t) j = tt
+      follows (DeathsFollow left t) j = small_steps_inv (work t) t j
+
+      go : (r : Option Fault) → refusal c s ≡ r → Every (λ st h. Kept st) (steps_of r c s)
+      go None e = let j = effect c s i (granted c s e) in every_append Kept (following (outcome c s)) _ (follows (outcome c s) j) ((i, j), tt)
+      go (Some fault) e = ((i, i), tt)
+
+  -- the invariant holds before and after each step
+  pub every_inv : (cs : List Call) (s : State) → Inv s [] → Every (λ st h. Kept st) (history (run cs s))
+  unfolding run Every
+  every_inv [] s i = tt
+  every_inv (c ∷ cs) s i =
+      rw (history_append (run cs (call c s)) (exchange c s ∷ []))
+      (every_append Kept (history (run cs (call c s))) _ (every_inv cs (call c s) (call_inv c s i)) (every_append Kept (steps_of (refusal c s) c s) [] (steps_inv c s i) tt))
+
+  pub every_counted : (cs : List Call) (s : State) → Inv s [] → Every (λ st h. Counted st.after) (history (run cs s))
+  every_counted cs s i = every_map (λ st h. Kept st) (λ st h. Counted st.after) (λ st h k. counted_at st.after k.1) (history (run cs s)) (every_inv cs s i)
