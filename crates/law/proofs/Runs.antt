@@ -1,6 +1,6 @@
 -- What holds of every core that a run comes to.
 use Rattle.std.proofs.Common.{◌≡◌, ℕ, zero, suc, ◌+◌, ◌<◌, ◌≤◌, true, false, not, ◌&&◌, eqb, ltb, Option, List, [], ◌∷◌, ◌++◌, length, set, Some, None, sym, refl, ap, ◌∙◌, subst, inl, arith, append_assoc}
-use Rattle.std.proofs.lemmas.Bool.{eqb-false, ne_eqb, and_parts, not-true, ltb-false, cond_both}
+use Rattle.std.proofs.lemmas.Bool.{eqb-false, ne_eqb, and_parts, not-true, ltb-false, le-ltb, cond_both}
 use Rattle.refusal.specs.declared.Fault.{Fault}
 use Rattle.classes.specs.Rows.{Class, class_at, all_good, good_rows, plain_weak}
 use Rattle.definition.specs.Base.{bit, sum_to}
@@ -9,7 +9,7 @@ use Rattle.definition.specs.Opening.{can_open, opening}
 use Rattle.definition.specs.Changes.{with_places, with_handles}
 use Rattle.definition.specs.Death.{loose, advance, waits, rests, settle, settled, work}
 use Rattle.definition.specs.Calls.{Call, Make, Hold, Drop, Store, Swap, SetDictionary, Weaken, Upgrade, ListWeak, Intern, Attend, SetDel, HandBack, Outcome, Answers, DeathsFollow, content, standing, reused, answering, handed, hold, hold_all, exchanged, new_reference, refusal, outcome, after, state_after, call}
-use Rattle.definition.proofs.Sums.{count_other}
+use Rattle.definition.proofs.Sums.{same, count_other}
 use Rattle.law.specs.Run.{Small, Step, Exchange, small_steps, own_change, following, steps_of, exchange, run, end, history}
 use Rattle.law.specs.Events.{Live, Every}
 use Rattle.law.specs.Law.{named_by, references, Counted}
@@ -105,8 +105,8 @@ counted_at s i = record { counts = counts; handles = handles; live = live; width
 -- ---- over all steps
 
 -- the invariant holds before a step, and after it
-abbrev pub Kept : Step → Type 0
-Kept st = Inv st.before [] × Inv st.after []
+abbrev pub InvAround : Step → Type 0
+InvAround st = Inv st.before [] × Inv st.after []
 
 every_map : (P Q : Step → List Step → Type 0) → ((st : Step) (h : List Step) → P st h → Q st h) → (h : List Step) → Every P h → Every Q h
 unfolding Every
@@ -133,7 +133,7 @@ waits_as s t (o ∷ below) e w = rw (e o below refl) w
 rests_as : (s t : State) → t.stack ≡ s.stack → ((o : ℕ) → t.phase o ≡ s.phase o) → rests s ≡ true → rests t ≡ true
 rests_as s t st ph w = subst (λ (l : List ℕ). waits l t ≡ true) (sym st) (waits_as s t s.stack (λ o below q. ph o) w)
 
--- what a call comes to, if no work was left
+-- what a call answers leaves no work where none was
 abbrev pub StillRests : State → Outcome → Type 0
 StillRests s (Answers number listed t) = rests s ≡ true → rests t ≡ true
 StillRests s (DeathsFollow left t) = Unit {0}
@@ -151,7 +151,7 @@ hold_all_rests (o ∷ os) s w = hold_all_rests os (hold o s) (rests_as s (hold o
 born_rests : (s t : State) → Inv s [] → t.stack ≡ s.stack → ((o : ℕ) → (o ≡ s.next → ⊥) → t.phase o ≡ s.phase o) → rests s ≡ true → rests t ≡ true
 born_rests s t i st ph w = subst (λ (l : List ℕ). waits l t ≡ true) (sym st) (waits_as s t s.stack (λ o below q. ph o (λ z. omega (arith, (on_top s [] i o below q).1))) w)
 
-outcome_rests : (c : Call) (s : State) → Inv s [] → StillRests s (outcome c s)
+pub outcome_rests : (c : Call) (s : State) → Inv s [] → StillRests s (outcome c s)
 unfolding outcome
 outcome_rests (Make class dictionary payload) s i = born_rests s _ i refl (λ o ne. rw (ne_eqb o s.next ne) refl)
 outcome_rests (Hold o) s i = rests_as s _ refl (λ x. refl)
@@ -170,6 +170,13 @@ outcome_rests (Intern o) s i = rests_as s _ refl (λ x. refl)
 outcome_rests (Attend host) s i = rests_as s _ refl (λ x. refl)
 outcome_rests (SetDel class del) s i = rests_as s _ refl (λ x. refl)
 outcome_rests (HandBack turn lent) s i = tt
+
+-- ---- a hand back is accepted
+
+-- while a turn is open, the newest can be handed back, with a list as long as there are unfreed objects
+pub back_accepted : (s : State) (lent : ℕ) → 0 < s.turns → s.unfreed ≤ lent → refusal (HandBack s.turns lent) s ≡ None
+unfolding refusal
+back_accepted s lent some enough = rw (ne_eqb s.turns 0 (λ q. omega arith), same s.turns, le-ltb lent s.unfreed enough) refl
 
 -- ---- a run, given that each call's own change keeps the invariant
 
@@ -210,33 +217,33 @@ module _ (effect : (c : Call) (s : State) → Inv s [] → Granted c s → Inv (
 
   -- ---- at every moment of a run
 
-  small_steps_inv : (n : ℕ) (s : State) → Inv s [] → Every (λ st h. Kept st) (small_steps n s)
+  small_steps_inv : (n : ℕ) (s : State) → Inv s [] → Every (λ st h. InvAround st) (small_steps n s)
   unfolding Every
   small_steps_inv zero s i = tt
   small_steps_inv (suc n) s i =
-      cond_both (rests s) [] (small_steps n (advance s) ++ (record { what = Small; before = s; after = advance s } ∷ [])) (Every (λ st h. Kept st))
+      cond_both (rests s) [] (small_steps n (advance s) ++ (record { what = Small; before = s; after = advance s } ∷ [])) (Every (λ st h. InvAround st))
       (λ e. tt)
-      (λ e. every_append Kept (small_steps n (advance s)) _ (small_steps_inv n (advance s) (advance_inv s i)) ((i, advance_inv s i), tt))
+      (λ e. every_append InvAround (small_steps n (advance s)) _ (small_steps_inv n (advance s) (advance_inv s i)) ((i, advance_inv s i), tt))
 
-  steps_inv : (c : Call) (s : State) → Inv s [] → Every (λ st h. Kept st) (steps_of (refusal c s) c s)
+  steps_inv : (c : Call) (s : State) → Inv s [] → Every (λ st h. InvAround st) (steps_of (refusal c s) c s)
   unfolding Every
   steps_inv c s i = go (refusal c s) refl
     where
-      follows : (out : Outcome) → Inv (own_change out) [] → Every (λ st h. Kept st) (following out)
+      follows : (out : Outcome) → Inv (own_change out) [] → Every (λ st h. InvAround st) (following out)
       follows (Answers number listed t) j = tt
       follows (DeathsFollow left t) j = small_steps_inv (work t) t j
 
-      go : (r : Option Fault) → refusal c s ≡ r → Every (λ st h. Kept st) (steps_of r c s)
-      go None e = let j = effect c s i (granted c s e) in every_append Kept (following (outcome c s)) _ (follows (outcome c s) j) ((i, j), tt)
+      go : (r : Option Fault) → refusal c s ≡ r → Every (λ st h. InvAround st) (steps_of r c s)
+      go None e = let j = effect c s i (granted c s e) in every_append InvAround (following (outcome c s)) _ (follows (outcome c s) j) ((i, j), tt)
       go (Some fault) e = ((i, i), tt)
 
   -- the invariant holds before and after each step
-  pub every_inv : (cs : List Call) (s : State) → Inv s [] → Every (λ st h. Kept st) (history (run cs s))
+  pub every_inv : (cs : List Call) (s : State) → Inv s [] → Every (λ st h. InvAround st) (history (run cs s))
   unfolding run Every
   every_inv [] s i = tt
   every_inv (c ∷ cs) s i =
       rw (history_append (run cs (call c s)) (exchange c s ∷ []))
-      (every_append Kept (history (run cs (call c s))) _ (every_inv cs (call c s) (call_inv c s i)) (every_append Kept (steps_of (refusal c s) c s) [] (steps_inv c s i) tt))
+      (every_append InvAround (history (run cs (call c s))) _ (every_inv cs (call c s) (call_inv c s i)) (every_append InvAround (steps_of (refusal c s) c s) [] (steps_inv c s i) tt))
 
   pub every_counted : (cs : List Call) (s : State) → Inv s [] → Every (λ st h. Counted st.after) (history (run cs s))
-  every_counted cs s i = every_map (λ st h. Kept st) (λ st h. Counted st.after) (λ st h k. counted_at st.after k.1) (history (run cs s)) (every_inv cs s i)
+  every_counted cs s i = every_map (λ st h. InvAround st) (λ st h. Counted st.after) (λ st h k. counted_at st.after k.1) (history (run cs s)) (every_inv cs s i)
