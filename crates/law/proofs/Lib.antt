@@ -1,6 +1,7 @@
 pub mod Granted
 pub mod Invariant
 pub mod Moves
+pub mod Calm
 pub mod Runs
 pub mod Steps
 pub mod Holds
