@@ -13,3 +13,5 @@ pub mod Exchanges
 pub mod Backs
 pub mod Shapes
 pub mod Others
+pub mod Potential
+pub mod Ending

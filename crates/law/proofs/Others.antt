@@ -58,11 +58,14 @@ unfolding settle
 settle_inv zero s i = i
 settle_inv (suc n) s i = settle_inv n (advance s) (advance_inv s i)
 
+pub settled_inv : (s : State) → Inv s [] → Inv (settled s) []
+unfolding settled
+settled_inv s i = settle_inv (work s) s i
+
 -- and so does what follows a call's own change
 pub after_inv : (out : Outcome) → Inv (own_change out) [] → Inv (after out) []
-unfolding settled
 after_inv (Answers number listed s) i = i
-after_inv (DeathsFollow left s) i = settle_inv (work s) s i
+after_inv (DeathsFollow left s) i = settled_inv s i
 
 -- a call keeps the invariant if its own change does when it is not refused
 pub call_inv_from : (c : Call) (s : State) → (Granted c s → Inv (own_change (outcome c s)) []) → Inv s [] → Inv (call c s) []
