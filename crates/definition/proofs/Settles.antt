@@ -40,7 +40,7 @@ falls s t = advance_cases s (λ u. (rests s ≡ true) ⊎ (work u < work s)) (re
     idle (inl e) = inl e
     idle (inr q) = absurd (both_ways (is_dying (s.phase q.0)) q.2 (t.dying q.0 q.1))
 
-settle_stays : (n : ℕ) (s : State) → rests s ≡ true → settle n s ≡ s
+pub settle_stays : (n : ℕ) (s : State) → rests s ≡ true → settle n s ≡ s
 unfolding settle
 settle_stays zero s e = refl
 settle_stays (suc n) s e = rw (rests_stays s e) (settle_stays n s e)
@@ -127,7 +127,7 @@ pub frees_at_rest : (s : State) → rests s ≡ true → frees s ≡ []
 unfolding frees
 frees_at_rest s e = frees_none s s.stack e
 
-freed_stays : (n : ℕ) (s : State) → rests s ≡ true → freed_in n s ≡ []
+pub freed_stays : (n : ℕ) (s : State) → rests s ≡ true → freed_in n s ≡ []
 unfolding freed_in
 freed_stays zero s e = refl
 freed_stays (suc n) s e = rw (frees_at_rest s e, rests_stays s e) (freed_stays n s e)

@@ -39,7 +39,7 @@ give_up_work s x t =
 
 -- ---- each step makes the work less
 
-dying_unfreed : (p : Phase) → is_dying p ≡ true → is_unfreed p ≡ true
+pub dying_unfreed : (p : Phase) → is_dying p ≡ true → is_unfreed p ≡ true
 dying_unfreed p e = (and_parts (is_unfreed p) (not (is_resting p)) e).0
 
 pub top_below : (s : State) → Tidy s → (o : ℕ) (below : List ℕ) → Top s o below → o < s.next
@@ -69,7 +69,7 @@ pub give_up_tidy : (s : State) (x : ℕ) → Tidy s → Tidy (give_up x s)
 give_up_tidy s x t = give_up_cases s x Tidy (λ lo. t) (λ lo e. t) (λ lo ph e. (λ a. push_tidy s t x (DelOpen (found s x)) ph refl, λ a. push_tidy s t x Taking ph refl))
 
 -- o leaves the stack
-pop_tidy : (s : State) → Tidy s → (o : ℕ) (below : List ℕ) (p : Phase) → s.stack ≡ o ∷ below → (is_unfreed p ≡ true → o < s.next) → Ordered (put s.phase o p) below s.next
+pub pop_tidy : (s : State) → Tidy s → (o : ℕ) (below : List ℕ) (p : Phase) → s.stack ≡ o ∷ below → (is_unfreed p ≡ true → o < s.next) → Ordered (put s.phase o p) below s.next
 pop_tidy s t o below p st lo = record {
   below = point (λ y. is_unfreed (put s.phase o p y) ≡ true → y < s.next) o (rw (same o) lo) (λ y ne. rw (ne_eqb y o ne) (t.below y));
   dying = point (λ y. 0 < count y below → is_dying (put s.phase o p y) ≡ true) o (λ c. absurd (omega (arith, gone))) (λ y ne c. rw (ne_eqb y o ne) (t.dying y (rw (st, ne_eqb y o ne) c)));

@@ -15,3 +15,5 @@ pub mod Shapes
 pub mod Others
 pub mod Potential
 pub mod Ending
+pub mod Replies
+pub mod Telling
