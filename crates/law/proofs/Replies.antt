@@ -1,22 +1,18 @@
 -- What a reply tells of frees and of a turn is what the steps of its call do.
-use Rattle.std.proofs.Common.{◌≡◌, ℕ, zero, suc, ◌-◌, ◌<◌, Bool, true, false, cond, not, ◌&&◌, ◌||◌, eqb, ltb, Option, ◌⊎◌, List, [], ◌∷◌, ◌++◌, get_or, set, Some, None, sym, refl, ap, ◌∙◌, subst, inl, inr, arith, append_assoc, append-nil}
-use Rattle.std.proofs.lemmas.Bool.{ne_eqb, eqb-true, eqb-false, lt-ltb, le-ltb, or_parts, not-false, cases_eq, both_ways, cond_both, cond-true, cond-false}
-use Rattle.refusal.specs.declared.Fault.{Fault}
-use Rattle.definition.specs.Base.{put, bit, count}
+use Rattle.std.proofs.Common.{◌≡◌, ℕ, zero, suc, Bool, true, false, not, ◌&&◌, eqb, ltb, ◌⊎◌, List, [], ◌∷◌, ◌++◌, get_or, set, Some, None, sym, refl, ap, ◌∙◌, subst, inl, inr, arith, append_assoc, append-nil}
+use Rattle.std.proofs.lemmas.Bool.{ne_eqb, lt-ltb, le-ltb, cases_eq, both_ways, cond_both, cond-true, cond-false}
+use Rattle.definition.specs.Base.{put}
 use Rattle.definition.specs.State.{Phase, Absent, Resting, DelOpen, Taking, Draining, Calling, Freeing, Leaving, State, is_unfreed, is_open}
-use Rattle.definition.specs.Changes.{with_phase, with_places, with_callback, with_held, with_giving, with_turns, with_stack, with_handles}
-use Rattle.definition.specs.Death.{loose, less, more, spent, found, pushed, opened, del_opens, clearing_begins, give_up, uncached, takes, drains, unlisted, leaving, advance, frees_by, frees_top, frees, waits, rests, work, settle, freed_in, settled, freed}
-use Rattle.definition.specs.Calls.{Call, Make, Hold, Drop, Store, Swap, SetDictionary, Weaken, Upgrade, ListWeak, Intern, Attend, SetDel, HandBack, Outcome, Answers, DeathsFollow, Del, Callback, Asked, Turn, newest_turn, turn_since, refusal, outcome, answered, answer, call}
-use Rattle.definition.proofs.Sums.{same, point, sum_has}
+use Rattle.definition.specs.Changes.{with_phase, with_places, with_callback, with_held, with_giving}
+use Rattle.definition.specs.Death.{more, spent, found, opened, give_up, unlisted, advance, frees_by, frees_top, frees, waits, rests, settle, freed_in}
+use Rattle.definition.specs.Calls.{Del, Callback, Asked, newest_turn, turn_since}
+use Rattle.definition.proofs.Sums.{same, point}
 use Rattle.definition.proofs.Advance.{is_dying, give_up_cases, Top, Idle, advance_cases}
 use Rattle.definition.proofs.Work.{Tidy, advance_tidy}
-use Rattle.definition.proofs.Settles.{rests_stays, settle_stays, frees_at_rest, freed_stays}
-use Rattle.law.specs.Run.{What, Small, Step, Exchange, small_steps, own_change, following, steps_of, exchange, run}
+use Rattle.definition.proofs.Settles.{settle_stays, frees_at_rest, freed_stays}
+use Rattle.law.specs.Run.{What, Small, Step, small_steps}
 use Rattle.law.specs.Events.{Freed}
-use Rattle.law.specs.Law.{Lists, none, quiet, one, Opens, Quiet, AllQuiet, Shows, Tells, AllTell}
-use Rattle.law.proofs.Granted.{Granted, granted}
-use Rattle.law.proofs.Invariant.{Inv}
-use Rattle.law.proofs.Steps.{tidy}
+use Rattle.law.specs.Law.{Lists, quiet, one, Opens, Quiet, AllQuiet, Shows}
 
 -- ---- phases
 

@@ -1,15 +1,15 @@
 -- What a reply tells, over every run: the births that the call's steps free, and the turn that its last step opens.
-use Rattle.std.proofs.Common.{◌≡◌, ℕ, suc, ◌+◌, ◌-◌, ◌<◌, ◌≤◌, true, false, not, ◌&&◌, eqb, ltb, Option, ◌⊎◌, List, [], ◌∷◌, ◌++◌, set, Some, None, Ok, sym, refl, ap, inl, inr, arith}
+use Rattle.std.proofs.Common.{◌≡◌, ℕ, suc, ◌+◌, ◌-◌, ◌<◌, true, ltb, Option, ◌⊎◌, List, [], ◌∷◌, ◌++◌, set, Some, None, Ok, refl, ap, inl, inr, arith}
 use Rattle.std.proofs.lemmas.Bool.{ne_eqb, both_ways, cond_both}
 use Rattle.refusal.specs.declared.Fault.{Fault}
 use Rattle.classes.specs.Rows.{Class}
 use Rattle.definition.specs.Base.{put, count}
-use Rattle.definition.specs.State.{Phase, Absent, Resting, DelOpen, Taking, Draining, Calling, Freeing, Leaving, State, is_unfreed, is_open}
-use Rattle.definition.specs.Changes.{with_phase, with_places, with_turns, with_handles}
-use Rattle.definition.specs.Death.{loose, less, spent, clearing_begins, give_up, waits, rests, work, settle, settled, freed}
-use Rattle.definition.specs.Calls.{Call, Make, Hold, Drop, Store, Swap, SetDictionary, Weaken, Upgrade, ListWeak, Intern, Attend, SetDel, HandBack, Outcome, Answers, DeathsFollow, content, dictionary_of, Turn, standing, reused, answering, handed, hold, hold_all, exchanged, new_reference, del_ends, handed_back, newest_back, newest_turn, turn_since, refusal, outcome, replied, after, state_after, answered, call, answer}
+use Rattle.definition.specs.State.{Phase, Absent, Resting, DelOpen, Taking, Draining, Calling, Freeing, Leaving, State, is_unfreed}
+use Rattle.definition.specs.Changes.{with_places, with_turns, with_handles}
+use Rattle.definition.specs.Death.{loose, less, spent, waits, rests, work, settled, freed}
+use Rattle.definition.specs.Calls.{Call, Make, Hold, Drop, Store, Swap, SetDictionary, Weaken, Upgrade, ListWeak, Intern, Attend, SetDel, HandBack, Outcome, Answers, DeathsFollow, content, dictionary_of, Turn, standing, reused, answering, handed, hold, hold_all, exchanged, del_ends, handed_back, newest_back, newest_turn, turn_since, refusal, outcome, replied, after, state_after, answered, call, answer}
 use Rattle.definition.specs.Opening.{opening}
-use Rattle.definition.proofs.Sums.{same, point, count_here}
+use Rattle.definition.proofs.Sums.{point, count_here}
 use Rattle.definition.proofs.Advance.{is_dying}
 use Rattle.definition.proofs.Work.{Ordered, Tidy, dying_unfreed, phase_tidy, pop_tidy, give_up_tidy}
 use Rattle.definition.proofs.Settles.{settle_stays, settled_tidy}
