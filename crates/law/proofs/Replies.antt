@@ -1,4 +1,4 @@
--- What a reply tells of frees and of a turn is what the steps of its call do.
+-- What the small steps after a call free, and which turn they open.
 use Rattle.std.proofs.Common.{◌≡◌, ℕ, zero, suc, Bool, true, false, not, ◌&&◌, eqb, ltb, ◌⊎◌, List, [], ◌∷◌, ◌++◌, get_or, set, Some, None, sym, refl, ap, ◌∙◌, subst, inl, inr, arith, append_assoc, append-nil}
 use Rattle.std.proofs.lemmas.Bool.{ne_eqb, lt-ltb, le-ltb, cases_eq, both_ways, cond_both, cond-true, cond-false}
 use Rattle.definition.specs.Base.{put}
@@ -24,12 +24,15 @@ NoneFreed p q = (o : ℕ) → is_unfreed (p o) ≡ true → is_unfreed (q o) ≡
 abbrev pub NoneOpens : (ℕ → Phase) → (ℕ → Phase) → Type 0
 NoneOpens p q = (o : ℕ) → is_open (p o) ≡ false → is_open (q o) ≡ false
 
+-- one phase changes to that of an unfreed object
 pub put_unfreed : (f : ℕ → Phase) (o : ℕ) (p : Phase) → is_unfreed p ≡ true → NoneFreed f (put f o p)
 put_unfreed f o p e = point (λ y. is_unfreed (f y) ≡ true → is_unfreed (put f o p y) ≡ true) o (λ u. rw (same o) e) (λ y ne u. rw (ne_eqb y o ne) u)
 
+-- or to one in which no turn is open
 pub put_closed : (f : ℕ → Phase) (o : ℕ) (p : Phase) → is_open p ≡ false → NoneOpens f (put f o p)
 put_closed f o p e = point (λ y. is_open (f y) ≡ false → is_open (put f o p y) ≡ false) o (λ u. rw (same o) e) (λ y ne u. rw (ne_eqb y o ne) u)
 
+-- or to one in which a turn is open exactly if one was
 put_as_open : (f : ℕ → Phase) (o : ℕ) (p : Phase) → is_open p ≡ is_open (f o) → (y : ℕ) → is_open (put f o p y) ≡ is_open (f y)
 put_as_open f o p e = point (λ y. is_open (put f o p y) ≡ is_open (f y)) o (rw (same o) e) (λ y ne. rw (ne_eqb y o ne) refl)
 
@@ -39,16 +42,19 @@ put_as_open f o p e = point (λ y. is_open (put f o p y) ≡ is_open (f y)) o (r
 abbrev pub StepFrees : State → State → Type 0
 StepFrees s t = ((frees s ≡ []) × NoneFreed s.phase t.phase) ⊎ ((x : ℕ) × (frees s ≡ x ∷ []) × (is_unfreed (s.phase x) ≡ true) × (t.phase x ≡ Absent) × ((o : ℕ) → (o ≡ x → ⊥) → t.phase o ≡ s.phase o))
 
+-- a death that starts frees nobody
 pub give_up_unfreed : (s v : State) (x : ℕ) → NoneFreed s.phase v.phase → NoneFreed s.phase (give_up x v).phase
 give_up_unfreed s v x n =
     give_up_cases v x (λ t. NoneFreed s.phase t.phase) (λ lo. n) (λ lo e. n)
     (λ lo ph e. (λ a o u. put_unfreed v.phase x (DelOpen (found v x)) refl o (n o u), λ a o u. put_unfreed v.phase x Taking refl o (n o u)))
 
 module _ (s : State) (o : ℕ) (below : List ℕ) (st : s.stack ≡ o ∷ below) where
+  -- only the newest of the dying may be freed
   frees_on_top : frees s ≡ frees_by (s.phase o) (s.giving o) o
   unfolding frees
   frees_on_top = ap (λ (l : List ℕ). frees_top l s) st
 
+  -- and not while it has something to give up
   gives_first : (x : ℕ) (xs : List ℕ) → s.giving o ≡ x ∷ xs → frees s ≡ []
   gives_first x xs gv = frees_on_top ∙ rw gv (by (s.phase o))
     where
@@ -62,6 +68,7 @@ module _ (s : State) (o : ℕ) (below : List ℕ) (st : s.stack ≡ o ∷ below)
       by (Freeing k) = refl
       by Leaving = refl
 
+-- each step frees whom it is said to free, and nobody else
 advance_frees : (s : State) → Tidy s → StepFrees s (advance s)
 advance_frees s t = advance_cases s (StepFrees s) (record {
   idle = idle;
@@ -128,6 +135,7 @@ pub record OpensOne (s : State) (turns : ℕ) (t : State) : Type 0 where
 abbrev pub Turned : State → ℕ → State → Type 0
 Turned s turns t = OpensOne s turns t ⊎ ((t.turns ≡ turns) × NoneOpens s.phase t.phase)
 
+-- a death that starts opens its del turn, or none
 pub give_up_turned : (s v : State) (x : ℕ) → ((o : ℕ) → is_open (v.phase o) ≡ is_open (s.phase o)) → Turned s v.turns (give_up x v)
 give_up_turned s v x ph =
     give_up_cases v x (Turned s v.turns) (λ lo. inr (refl, λ o e. ph o ∙ e)) (λ lo q. inr (refl, λ o e. ph o ∙ e))
@@ -136,6 +144,7 @@ give_up_turned s v x ph =
       λ a. inr (refl, λ o e. put_closed v.phase x Taking refl o (ph o ∙ e)),
     ))
 
+-- each step opens one turn or none
 advance_turned : (s : State) → Turned s s.turns (advance s)
 advance_turned s = advance_cases s (Turned s s.turns) (record {
   idle = λ r. inr (refl, λ o e. e);
@@ -163,13 +172,16 @@ advance_turned s = advance_cases s (Turned s s.turns) (record {
 
 -- ---- the turn that a reply shows
 
+-- a step that opens none
 pub quiet_step : (what : What) (s t : State) → NoneOpens s.phase t.phase → Quiet (record { what = what; before = s; after = t })
 quiet_step what s t n (Del o class) q = both_ways (is_open (t.phase o)) (n o q.0) (ap is_open q.1)
 quiet_step what s t n (Callback c w) q = both_ways (is_open (t.phase q.0)) (n q.0 q.1.0) (ap is_open q.1.1)
 
+-- no turn has opened since, if as many are open
 none_since : (left : ℕ) (s : State) → s.turns ≡ left → turn_since left s ≡ None
 none_since left s e = cond-false (ltb left s.turns) (newest_turn s.stack s) None (le-ltb left s.turns (omega arith))
 
+-- no steps follow where no work is left
 pub no_steps : (n : ℕ) (s : State) → rests s ≡ true → small_steps n s ≡ []
 no_steps zero s e = refl
 no_steps (suc n) s e = cond-true (rests s) [] (small_steps n (advance s) ++ (record { what = Small; before = s; after = advance s } ∷ [])) e
