@@ -20,11 +20,11 @@ use Rattle.law.proofs.Replies.{NoneFreed, NoneOpens, put_unfreed, put_closed, gi
 -- ---- a call's own change
 
 -- A change after which what is on the stack is dying, each once, that frees nobody, opens no turn and leaves as many open
-abbrev pub Calm : State → State → Type 0
-Calm s t = Tidy t × NoneFreed s.phase t.phase × NoneOpens s.phase t.phase × (t.turns ≡ s.turns)
+abbrev pub Silent : State → State → Type 0
+Silent s t = Tidy t × NoneFreed s.phase t.phase × NoneOpens s.phase t.phase × (t.turns ≡ s.turns)
 
 -- a new object, of whatever shape and with whatever places
-born_calm : (s : State) → Tidy s → Calm s (born no_shape [] 0 s)
+born_calm : (s : State) → Tidy s → Silent s (born no_shape [] 0 s)
 born_calm s t = (
   record {
     below = point (λ y. is_unfreed (put s.phase s.next Resting y) ≡ true → y < suc s.next) s.next (λ u. omega arith) (λ y ne. rw (ne_eqb y s.next ne) (λ u. omega (arith, t.below y u)));
@@ -37,17 +37,17 @@ born_calm s t = (
 )
 
 -- handles for each of a list
-hold_all_calm : (os : List ℕ) (s t : State) → Calm s t → Calm s (hold_all os t)
+hold_all_calm : (os : List ℕ) (s t : State) → Silent s t → Silent s (hold_all os t)
 hold_all_calm [] s t c = c
 hold_all_calm (o ∷ os) s t c = hold_all_calm os s (hold o t) c
 
 -- a content that goes into a place
-exchanged_calm : (s : State) (o k v : ℕ) → Tidy s → Calm s (exchanged o k v s)
+exchanged_calm : (s : State) (o k v : ℕ) → Tidy s → Silent s (exchanged o k v s)
 exchanged_calm s o k v t =
     let u = with_places o (set (s.places o) k v) s in
     let x = content s o k in
-    let c : Calm s s = (t, λ y e. e, λ y e. e, refl) in
-    cond_both (loose u x) (with_handles x (u.handles x + 1) u) u (Calm s) (λ e. c) (λ e. c)
+    let c : Silent s s = (t, λ y e. e, λ y e. e, refl) in
+    cond_both (loose u x) (with_handles x (u.handles x + 1) u) u (Silent s) (λ e. c) (λ e. c)
 
 module _ (s : State) (t : Tidy s) (o : ℕ) (below : List ℕ) (st : s.stack ≡ o ∷ below) where
   -- the newest of the dying has been born
@@ -55,17 +55,17 @@ module _ (s : State) (t : Tidy s) (o : ℕ) (below : List ℕ) (st : s.stack ≡
   lo = t.below o (dying_unfreed (s.phase o) (t.dying o (rw st (count_here o below))))
 
   -- what its del does not keep is dying still, and what it keeps leaves the stack
-  del_ends_calm : Calm s (del_ends o below s)
+  del_ends_calm : Silent s (del_ends o below s)
   del_ends_calm =
-      cond_both (spent s o) _ _ (Calm s)
+      cond_both (spent s o) _ _ (Silent s)
       (λ e. (phase_tidy s t o Taking lo refl, put_unfreed s.phase o Taking refl, put_closed s.phase o Taking refl, refl))
       (λ e. (pop_tidy s t o below Resting st (λ u. lo), put_unfreed s.phase o Resting refl, put_closed s.phase o Resting refl, refl))
 
 -- the newest death goes on
-handed_back_calm : (s : State) → Tidy s → (o : ℕ) (below : List ℕ) → s.stack ≡ o ∷ below → (p : Phase) → Calm s (handed_back p o below s)
+handed_back_calm : (s : State) → Tidy s → (o : ℕ) (below : List ℕ) → s.stack ≡ o ∷ below → (p : Phase) → Silent s (handed_back p o below s)
 handed_back_calm s t o below st Absent = (t, λ y e. e, λ y e. e, refl)
 handed_back_calm s t o below st Resting = (t, λ y e. e, λ y e. e, refl)
-handed_back_calm s t o below st (DelOpen c) = cond_both (loose s o) (less o s) s (λ (u : State). Calm s (del_ends o below u)) (λ e. del_ends_calm (less o s) t o below st) (λ e. del_ends_calm s t o below st)
+handed_back_calm s t o below st (DelOpen c) = cond_both (loose s o) (less o s) s (λ (u : State). Silent s (del_ends o below u)) (λ e. del_ends_calm (less o s) t o below st) (λ e. del_ends_calm s t o below st)
 handed_back_calm s t o below st Taking = (t, λ y e. e, λ y e. e, refl)
 handed_back_calm s t o below st Draining = (t, λ y e. e, λ y e. e, refl)
 handed_back_calm s t o below st (Calling c w) = (phase_tidy s t o Draining (lo s t o below st) refl, put_unfreed s.phase o Draining refl, put_closed s.phase o Draining refl, refl)
@@ -75,7 +75,7 @@ handed_back_calm s t o below st Leaving = (t, λ y e. e, λ y e. e, refl)
 -- What a call's own change does: an answer is calm. Where deaths may follow, nobody is freed, and one turn opens, which the
 -- newest death then waits in, or none, or nothing is dying
 abbrev pub Own : State → Outcome → Type 0
-Own s (Answers number listed t) = Calm s t
+Own s (Answers number listed t) = Silent s t
 Own s (DeathsFollow left t) = Tidy t × NoneFreed s.phase t.phase × (Turned s left t ⊎ ((t.stack ≡ []) × NoneOpens s.phase t.phase))
 
 -- a hand back, of whatever is the newest

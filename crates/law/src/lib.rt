@@ -7,7 +7,7 @@ ghost use Rattle.definition.specs.Calls.{Call};
 ghost use Rattle.definition.specs.Death.{rests};
 ghost use Rattle.definition.specs.Opening.{can_open, opening};
 ghost use Rattle.law.specs.Events.{Every};
-ghost use Rattle.law.specs.Law.{Counted, HandBacksEnd};
+ghost use Rattle.law.specs.Law.{AllTell, Counted, HandBacksEnd};
 ghost use Rattle.law.specs.Run.{run, end, history};
 
 /// After every call no work is left: nothing is dying, or the newest death waits for a hand back.
@@ -25,4 +25,10 @@ pub fn counts_are_references()
 /// many no turn is open. While one is open, the newest is accepted with a list that has an entry for each unfreed object.
 pub fn hand_backs_end()
     ensures { (capacity first : ℕ) (classes : List Class) → can_open capacity first classes ≡ true → (cs : List Call) → HandBacksEnd (end cs (opening capacity first classes)) }
+{}
+
+/// The births that a reply lists are those that its call's steps free, in order; the turn that it shows is the one that the last of
+/// these steps opens, and no other step of the call opens any; a refused call changes nothing.
+pub fn replies_tell_what_happened()
+    ensures { (capacity first : ℕ) (classes : List Class) (cs : List Call) → AllTell (run cs (opening capacity first classes)) }
 {}
