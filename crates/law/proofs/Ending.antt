@@ -20,7 +20,7 @@ use Rattle.law.proofs.Steps.{tidy, on_top, advance_inv}
 use Rattle.law.proofs.Granted.{granted, own_first}
 use Rattle.law.proofs.Backs.{hand_back_effect}
 use Rattle.law.proofs.Others.{settled_inv}
-use Rattle.law.proofs.Runs.{back_accepted}
+use Rattle.law.proofs.Counts.{back_accepted}
 use Rattle.law.proofs.Potential.{asleep, watching, potential, fresh_at, fresh_on, fresh, asleep_put, advance_potential}
 
 -- ---- the deaths that follow

@@ -1,9 +1,7 @@
-pub mod Granted
 pub mod Invariant
 pub mod Moves
-pub mod Calm
-pub mod Runs
 pub mod Steps
+pub mod Granted
 pub mod Holds
 pub mod Handed
 pub mod Births
@@ -13,6 +11,15 @@ pub mod Exchanges
 pub mod Backs
 pub mod Shapes
 pub mod Others
+pub mod Counts
+pub mod Listed
+pub mod Referents
+pub mod Moments
+pub mod Histories
+pub mod Counted
+pub mod Placing
+pub mod Puts
+pub mod Placed
 pub mod Potential
 pub mod Ending
 pub mod Replies

@@ -73,7 +73,7 @@ new_effect class o callback dictionary s i g re =
     cached_inv (with_weak o (s.next ∷ s.weak o) b) [] i₂ o (cond (eqb class 1 && eqb callback 0) s.next (s.cached o))
 
 -- what may be answered again is live
-reused_live : (class o callback : ℕ) (s : State) → Inv s [] → reused s class o callback ≡ true → is_live (s.phase (s.cached o)) ≡ true
+pub reused_live : (class o callback : ℕ) (s : State) → Inv s [] → reused s class o callback ≡ true → is_live (s.phase (s.cached o)) ≡ true
 reused_live class o callback s i re =
     let w = s.cached o in
     let e = (and_parts (eqb class 1 && eqb callback 0) (not (eqb w 0) && not (spent s w)) re).1 in

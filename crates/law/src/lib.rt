@@ -8,6 +8,7 @@ ghost use Rattle.definition.specs.Death.{rests};
 ghost use Rattle.definition.specs.Opening.{can_open, opening};
 ghost use Rattle.law.specs.Events.{Every};
 ghost use Rattle.law.specs.Law.{AllTell, Counted, HandBacksEnd};
+ghost use Rattle.law.specs.Places.{Named};
 ghost use Rattle.law.specs.Run.{run, end, history};
 
 /// After every call no work is left: nothing is dying, or the newest death waits for a hand back.
@@ -31,4 +32,9 @@ pub fn hand_backs_end()
 /// these steps opens, and no other step of the call opens any; a refused call changes nothing.
 pub fn replies_tell_what_happened()
     ensures { (capacity first : ℕ) (classes : List Class) (cs : List Call) → AllTell (run cs (opening capacity first classes)) }
+{}
+
+/// A place of an object names what an accepted call last put there, until a death empties it.
+pub fn places_name_what_was_put_there()
+    ensures { (capacity first : ℕ) (classes : List Class) → can_open capacity first classes ≡ true → (cs : List Call) → Every (λ step before. Named step.what step.before step.after) (history (run cs (opening capacity first classes))) }
 {}

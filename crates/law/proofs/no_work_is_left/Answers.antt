@@ -1,7 +1,6 @@
 use Rattle.definition.specs.Opening.{opening}
-use Rattle.law.proofs.Calm.{end_calm}
-use Rattle.law.proofs.Runs.{opening_calm}
+use Rattle.law.proofs.Moments.{opening_between, end_between}
 use Rattle.law.proofs.no_work_is_left.Goals as goal
 
 pub returns : goal.returns
-returns c capacity first classes e cs = (end_calm cs (opening capacity first classes) (opening_calm capacity first classes e)).rests
+returns c capacity first classes e cs = (end_between cs (opening capacity first classes) (opening_between capacity first classes e)).rests
