@@ -20,6 +20,13 @@ pub mod Counted
 pub mod Placing
 pub mod Puts
 pub mod Placed
+pub mod Passing
+pub mod HandlesTally
+pub mod BirthsTally
+pub mod TurnsTally
+pub mod Tallying
+pub mod NothingLost
+pub mod Kept
 pub mod Potential
 pub mod Ending
 pub mod Replies

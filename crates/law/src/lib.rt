@@ -7,9 +7,21 @@ ghost use Rattle.definition.specs.Calls.{Call};
 ghost use Rattle.definition.specs.Death.{rests};
 ghost use Rattle.definition.specs.Opening.{can_open, opening};
 ghost use Rattle.law.specs.Events.{Every};
-ghost use Rattle.law.specs.Law.{AllTell, Counted, HandBacksEnd};
+ghost use Rattle.law.specs.Law.{AllTell, Counted, HandBacksEnd, NothingLostOrKept, Tallied};
 ghost use Rattle.law.specs.Places.{Named};
 ghost use Rattle.law.specs.Run.{run, end, history};
+
+/// Nothing is lost and nothing is kept by mistake. While no turn is open, an object is made and not freed exactly if something
+/// holds it: a handle of the host's, its mark, or a place of an unfreed object. What something holds is never freed.
+pub fn nothing_is_lost_or_kept()
+    ensures { (capacity first : ℕ) (classes : List Class) → can_open capacity first classes ≡ true → (cs : List Call) → NothingLostOrKept (run cs (opening capacity first classes)) (end cs (opening capacity first classes)) }
+{}
+
+/// What calls and replies tell of a run says what its state is: which turns are open, which handles the host has, what is interned,
+/// and what is unfreed.
+pub fn tallies_tell_the_state()
+    ensures { (capacity first : ℕ) (classes : List Class) → can_open capacity first classes ≡ true → (cs : List Call) → Tallied (run cs (opening capacity first classes)) (end cs (opening capacity first classes)) }
+{}
 
 /// After every call no work is left: nothing is dying, or the newest death waits for a hand back.
 pub fn no_work_is_left()
