@@ -31,3 +31,11 @@ pub mod Potential
 pub mod Ending
 pub mod Replies
 pub mod Telling
+pub mod Living
+pub mod Smalls
+pub mod Calling
+pub mod WithHistory
+pub mod Deaths
+pub mod Nesting
+pub mod Everywhere
+pub mod Lived
