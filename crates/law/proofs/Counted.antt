@@ -7,14 +7,11 @@ use Rattle.law.specs.Events.{Every}
 use Rattle.law.specs.Law.{Counted}
 use Rattle.law.proofs.Counts.{counted_at}
 use Rattle.law.proofs.Histories.{every_history}
-use Rattle.law.proofs.Moments.{Always, Between, advance_always, change_always, call_between}
+use Rattle.law.proofs.Moments.{Between, advance_always, change_always}
 
 pub every_counted : (cs : List Call) (s : State) → Between s → Every (λ st h. Counted st.after) (history (run cs s))
-every_counted = every_history Between Always (λ st. Counted st.after) (record {
+every_counted = every_history (λ st. Counted st.after) (record {
   accepts = λ c s b g. counted_at _ (change_always c s b g).inv;
   refuses = λ c fault s b. counted_at s b.always.inv;
   steps = λ s a. counted_at _ (advance_always s a).inv;
-  changes = change_always;
-  goes_on = advance_always;
-  rests = call_between;
 })

@@ -8,14 +8,11 @@ use Rattle.law.specs.Places.{Named}
 use Rattle.law.proofs.Placing.{step_named}
 use Rattle.law.proofs.Puts.{call_named}
 use Rattle.law.proofs.Histories.{every_history}
-use Rattle.law.proofs.Moments.{Always, Between, advance_always, change_always, call_between}
+use Rattle.law.proofs.Moments.{Between}
 
 pub every_named : (cs : List Call) (s : State) → Between s → Every (λ st h. Named st.what st.before st.after) (history (run cs s))
-every_named = every_history Between Always (λ st. Named st.what st.before st.after) (record {
+every_named = every_history (λ st. Named st.what st.before st.after) (record {
   accepts = λ c s b g. call_named c s b.always.inv b.always.shaped g;
   refuses = λ c fault s b p q. refl;
   steps = λ s a. step_named s a.inv a.listed;
-  changes = change_always;
-  goes_on = advance_always;
-  rests = call_between;
 })

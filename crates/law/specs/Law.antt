@@ -169,6 +169,6 @@ pub record Law (cs : List Call) (start : State) : Type 0 where
   -- no work is left: nothing is dying, or the newest death waits for a hand back
   pub finished : rests (end cs start) ≡ true
 
--- For every core that can be opened, and every list of calls. No contract names this yet, and it is not proved
+-- for every core that can be opened, and every list of calls
 abbrev pub HoldsOfEveryRun : Type 0
 HoldsOfEveryRun = (capacity first : ℕ) (classes : List Class) → can_open capacity first classes ≡ true → (cs : List Call) → Law cs (opening capacity first classes)

@@ -7,7 +7,7 @@ ghost use Rattle.definition.specs.Calls.{Call};
 ghost use Rattle.definition.specs.Death.{rests};
 ghost use Rattle.definition.specs.Opening.{can_open, opening};
 ghost use Rattle.law.specs.Events.{Every};
-ghost use Rattle.law.specs.Law.{AllTell, Counted, HandBacksEnd, NothingLostOrKept, Tallied};
+ghost use Rattle.law.specs.Law.{AllTell, Counted, HandBacksEnd, HoldsOfEveryRun, Lives, NothingLostOrKept, Tallied};
 ghost use Rattle.law.specs.Places.{Named};
 ghost use Rattle.law.specs.Run.{run, end, history};
 
@@ -15,6 +15,12 @@ ghost use Rattle.law.specs.Run.{run, end, history};
 /// holds it: a handle of the host's, its mark, or a place of an unfreed object. What something holds is never freed.
 pub fn nothing_is_lost_or_kept()
     ensures { (capacity first : ℕ) (classes : List Class) → can_open capacity first classes ≡ true → (cs : List Call) → NothingLostOrKept (run cs (opening capacity first classes)) (end cs (opening capacity first classes)) }
+{}
+
+/// How objects live and die: when deaths start and del turns open, what a del keeps, that nothing cleared is ever upgraded, which
+/// references lose their callbacks and get turns and in which order, and that deaths nest.
+pub fn objects_live_and_die_in_order()
+    ensures { (capacity first : ℕ) (classes : List Class) → can_open capacity first classes ≡ true → (cs : List Call) → Every Lives (history (run cs (opening capacity first classes))) }
 {}
 
 /// What calls and replies tell of a run says what its state is: which turns are open, which handles the host has, what is interned,
@@ -49,4 +55,9 @@ pub fn replies_tell_what_happened()
 /// A place of an object names what an accepted call last put there, until a death empties it.
 pub fn places_name_what_was_put_there()
     ensures { (capacity first : ℕ) (classes : List Class) → can_open capacity first classes ≡ true → (cs : List Call) → Every (λ step before. Named step.what step.before step.after) (history (run cs (opening capacity first classes))) }
+{}
+
+/// The whole law, as one statement.
+pub fn the_law_holds_of_every_run()
+    ensures { HoldsOfEveryRun }
 {}
