@@ -2,10 +2,10 @@
 use Rattle.std.specs.Prelude.{List, [], ◌∷◌, length, slice_index}
 use Rattle.classes.specs.Rows.{Class, class_at, find_del, set_del, after_set_del}
 use Rattle.classes.specs.Entries.{entries_of}
-use Rattle.class_answers.specs.declared.request.Answer.{Answer}
-use Rattle.class_answers.specs.declared.request.Answer.TheVariants as answer
-use Rattle.class_answers.specs.declared.request.Request.{Request}
-use Rattle.class_answers.specs.declared.request.Request.TheVariants.{Last, Entries, Members, HasDictionary, IsWeak, IsImmutable, HasDel, AncestorCount, Ancestor, FindDel, SetDel}
+use Rattle.class_answers.specs.declared.asking.Answer.{Answer}
+use Rattle.class_answers.specs.declared.asking.Answer.TheVariants as answer
+use Rattle.class_answers.specs.declared.asking.Request.{Request}
+use Rattle.class_answers.specs.declared.asking.Request.TheVariants.{Last, Entries, Members, HasDictionary, IsWeak, IsImmutable, HasDel, AncestorCount, Ancestor, FindDel, SetDel}
 
 abbrev pub answer_of : List Class → Request → Answer
 answer_of rows Last = answer.Number (length rows)

@@ -1,7 +1,7 @@
 ghost use Rattle.std.specs.Prelude.{◌≡◌, true, IfOk, OnOk};
 ghost use Rattle.class_answers.specs.Answers.{answers_of, rows_after_all};
 
-use crate::request::{Answer, Request, ask};
+use crate::asking::{Answer, Request, ask};
 use classes::ClassTable;
 use std::alloc::{AllocError, Global};
 
