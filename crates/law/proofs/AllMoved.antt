@@ -18,6 +18,7 @@ use Rattle.law.proofs.Leaves.{drains_moved, frees_moved}
 use Rattle.law.proofs.Unlists.{leaves_moved}
 use Rattle.law.proofs.Newborn.{born_moved, reference_moved}
 
+-- a round is in the second stage
 rounds_two : (s : State) (o : ℕ) → Rounds s o → stage (s.phase o) ≡ 2
 rounds_two s o (inl ph) = rw ph refl
 rounds_two s o (inr d) = rw d.0 refl
@@ -40,19 +41,23 @@ advance_moved s i = advance_cases s (Moved s) (record {
 
 -- ---- calls
 
+-- an exchange alters no list
 exchanged_same : (s : State) (o k v : ℕ) → Same s (exchanged o k v s)
 exchanged_same s o k v = let u = with_places o (set (s.places o) k v) s in cond_both (loose u (content s o k)) _ u (Same s) (λ e. same_refl s) (λ e. same_refl s)
 
+-- nor do handles
 hold_all_same : (s : State) (os : List ℕ) (t : State) → Same s t → Same s (hold_all os t)
 hold_all_same s [] t a = a
 hold_all_same s (o ∷ os) t a = hold_all_same s os (hold o t) a
 
+-- nor does the end of a del turn
 del_ends_same : (s : State) (o : ℕ) (below : List ℕ) (c : ℕ) → s.phase o ≡ DelOpen c → Same s (del_ends o below s)
 del_ends_same s o below c ph =
     cond_both (spent s o) _ _ (Same s)
     (λ e. phase_same s o Taking (rw ph (omega arith)) (λ h. absurd (omega arith)) (λ c v q. let z : ◌≡◌ {A = ℕ} 0 1 = cc in absurd (omega arith)))
     (λ e. phase_same s o Resting (rw ph (omega arith)) (λ h. absurd (omega arith)) (λ c v q. let z : ◌≡◌ {A = ℕ} 0 1 = cc in absurd (omega arith)))
 
+-- nor does a hand back
 back_same : (s : State) (o : ℕ) (below : List ℕ) (p : Phase) → s.phase o ≡ p → Same s (handed_back p o below s)
 back_same s o below Absent ph = same_refl s
 back_same s o below Resting ph = same_refl s
@@ -63,6 +68,7 @@ back_same s o below (Calling c w) ph = phase_same s o Draining (rw ph (omega ari
 back_same s o below (Freeing k) ph = same_refl s
 back_same s o below Leaving ph = same_refl s
 
+-- whatever is handed back
 newest_same : (s : State) (l : List ℕ) → Same s (newest_back l s)
 newest_same s [] = same_refl s
 newest_same s (o ∷ below) = back_same (with_turns (s.turns - 1) s) o below (s.phase o) refl

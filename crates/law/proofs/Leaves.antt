@@ -15,12 +15,15 @@ use Rattle.law.proofs.Serves.{count_more, count_rest}
 -- ---- a callback is taken out
 
 module _ (s : State) (o w : ℕ) (ws : List ℕ) (ph : s.phase o ≡ Draining) (hd : s.held o ≡ w ∷ ws) where
+  -- the callback
   abbrev c : ℕ
   c = s.callback w
 
+  -- without a turn
   abbrev out : State
   out = with_giving o (c ∷ w ∷ []) (with_held o ws (with_callback w 0 s))
 
+  -- with one
   abbrev calling : State
   calling = opened (with_phase o (Calling c w) (with_giving o (w ∷ c ∷ w ∷ []) (more w (with_held o ws (with_callback w 0 s)))))
 
@@ -33,6 +36,7 @@ module _ (s : State) (o w : ℕ) (ws : List ℕ) (ph : s.phase o ≡ Draining) (
       go (inl q) (inr p) = same_as (cb v ∙ rw (eq-eqb v w q) (omega (arith, ap s.callback q))) (sh v)
       go (inr ne) p = same_as (cb v ∙ rw (ne_eqb v w ne) refl) (sh v)
 
+  -- no round holds more
   held : (y v : ℕ) → 0 < count v (put s.held o ws y) → 0 < count v (s.held y)
   held = point (λ y. (v : ℕ) → 0 < count v (put s.held o ws y) → 0 < count v (s.held y)) o (λ v h. rw hd (count_more v w ws (rw (same o) at h))) (λ y ne v h. rw (ne_eqb y o ne) at h)
 
@@ -43,9 +47,11 @@ module _ (s : State) (o w : ℕ) (ws : List ℕ) (ph : s.phase o ≡ Draining) (
       gone v (inl q) h = inr (inl (rw (eq-eqb v w q) refl))
       gone v (inr ne) h = inl (rw (same o) (count_rest v w ws ne h))
 
+  -- lists and rounds still fall
   falls : (y : ℕ) → Falling s.next (s.held y ++ s.weak y) → Falling s.next (put s.held o ws y ++ s.weak y)
   falls = point (λ y. Falling s.next (s.held y ++ s.weak y) → Falling s.next (put s.held o ws y ++ s.weak y)) o (λ f. rw (same o) (falling_tail s.next w (ws ++ s.weak o) (rw hd at f))) (λ y ne f. rw (ne_eqb y o ne) f)
 
+  -- no turn opens
   out_moved : (s.attends && not (eqb c 0)) ≡ false → Moved s out
   out_moved e = record {
     ages = older_ages s out refl (λ y. omega arith);
@@ -65,6 +71,7 @@ module _ (s : State) (o w : ℕ) (ws : List ℕ) (ph : s.phase o ≡ Draining) (
       quiet p (inl a) = rw a ph
       quiet p (inr z) = absurd (omega (arith, eqb-true c 0 (not-false (eqb c 0) z)))
 
+  -- a turn opens
   calling_moved : (s.attends && not (eqb c 0)) ≡ true → Moved s calling
   calling_moved e = record {
     ages = older_ages s calling refl (phase_older s o (Calling c w) (rw ph (omega arith)));
@@ -95,11 +102,13 @@ module _ (s : State) (o w : ℕ) (ws : List ℕ) (ph : s.phase o ≡ Draining) (
       stages : (y : ℕ) → stage (put s.phase o (Calling c w) y) ≡ stage (s.phase y)
       stages = point (λ y. stage (put s.phase o (Calling c w) y) ≡ stage (s.phase y)) o (rw (same o, ph) refl) (λ y ne. rw (ne_eqb y o ne) refl)
 
+  -- both ways
   pub drains_moved : Moved s (drains w ws o s)
   drains_moved = cond_both (s.attends && not (eqb c 0)) calling out (Moved s) calling_moved out_moved
 
 -- ---- an object is freed
 
+-- nothing is left of it
 pub frees_moved : (s : State) (o : ℕ) (below : List ℕ) → s.phase o ≡ Leaving → Moved s (leaving o below s)
 unfolding Falling
 frees_moved s o below ph =

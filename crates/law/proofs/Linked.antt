@@ -38,6 +38,7 @@ unborn_bare s i w l =
     let g : length (s.places w) + s.callback w ≡ 0 = rw (i.frame.fresh w (inr l)) at (i.good w (omega (arith, i.frame.first))).gone in
     omega arith
 
+-- so what has one is born
 pub watcher_born : (s : State) → Inv s [] → (w : ℕ) → 0 < s.callback w → w < s.next
 watcher_born s i w p = by (cases_lt w s.next)
   where
@@ -56,6 +57,7 @@ leaving_round {p = (Calling c x)} i z = absurd (omega arith)
 leaving_round {p = (Freeing n)} i z = omega (arith, i)
 leaving_round {p = Leaving} i z = omega (arith, i)
 
+-- what is not unfreed is nobody
 freed_stage : (p : Phase) → is_unfreed p ≡ false → stage p ≡ 5
 freed_stage Absent e = refl
 freed_stage Resting e = let z : ◌≡◌ {A = ℕ} 0 1 = cc in absurd (omega arith)
@@ -66,6 +68,7 @@ freed_stage (Calling c w) e = let z : ◌≡◌ {A = ℕ} 0 1 = cc in absurd (om
 freed_stage (Freeing k) e = let z : ◌≡◌ {A = ℕ} 0 1 = cc in absurd (omega arith)
 freed_stage Leaving e = let z : ◌≡◌ {A = ℕ} 0 1 = cc in absurd (omega arith)
 
+-- the same test, other claims
 match_map : (b : Bool) {P Q P' Q' : Type 0} → (P → P') → (Q → Q') → MatchBool b P Q → MatchBool b P' Q'
 match_map true f g x = f x
 match_map false f g x = g x
@@ -73,15 +76,19 @@ match_map false f g x = g x
 -- ---- a step
 
 module _ (st : Step) (h : List Step) (mo : Moment st) (i : Inv st.before []) (j : Inv st.after []) (told : Told st.before h) (k : Linked st.before h) where
+  -- before
   abbrev s : State
   s = st.before
 
+  -- after
   abbrev t : State
   t = st.after
 
-  pub m : Moved s t
-  m = moment_moved st mo i
+  -- what the step does to weak references
+  pub moved : Moved s t
+  moved = moment_moved st mo i
 
+  -- what is served was held
   pub in_round : (o w : ℕ) → Serves s t o w → 0 < count w (s.held o)
   in_round o w sv = rw sv.round (count_here w (t.held o))
 
@@ -89,11 +96,11 @@ module _ (st : Step) (h : List Step) (mo : Moment st) (i : Inv st.before []) (j 
   pub served_drained : (o w c : ℕ) → Serves s t o w → s.callback w ≡ c → Drained st o w c
   served_drained o w c sv e =
       let n = in_round o w sv in
-      ((omega (arith, sv.some), e, sv.gone), stage_live (s.phase w) (omega (arith, live_before s t i j m k.lists o w n)), k.lists.refers_held o w n, stage_cleared (s.phase o) (rw sv.phase (omega arith)) (rw sv.phase (omega arith)))
+      ((omega (arith, sv.some), e, sv.gone), stage_live (s.phase w) (omega (arith, live_before s t i j moved k.lists o w n)), k.lists.refers_held o w n, stage_cleared (s.phase o) (rw sv.phase (omega arith)) (rw sv.phase (omega arith)))
 
   -- and what is drained is served
   pub drained_served : (o w c : ℕ) → Drained st o w c → Serves s t o w
-  drained_served o w c d = by (m.turned w)
+  drained_served o w c d = by (moved.turned w)
     where
       l : stage (s.phase w) ≡ 1
       l = live_stage (s.phase w) d.1
@@ -107,7 +114,7 @@ module _ (st : Step) (h : List Step) (mo : Moment st) (i : Inv st.before []) (j 
 
   -- a reference loses its callback in its own death, or alive, to the death of its referent
   pub loses : (w c : ℕ) → Loses st w c → Cleared s w ⊎ ((o : ℕ) × Drained st o w c)
-  loses w c d = by (m.turned w)
+  loses w c d = by (moved.turned w)
     where
       by : Turned s t w → Cleared s w ⊎ ((o : ℕ) × Drained st o w c)
       by (same_as e r) = absurd (omega (arith, d.0, d.1, d.2))
@@ -118,7 +125,7 @@ module _ (st : Step) (h : List Step) (mo : Moment st) (i : Inv st.before []) (j 
 
   -- every callback turn opens so
   pub call_opens : (o c w : ℕ) → OpensCall st o c w → Drained st o w c
-  call_opens o c w e = by (m.calls o c w e.1)
+  call_opens o c w e = by (moved.calls o c w e.1)
     where
       by : (s.phase o ≡ Calling c w) ⊎ ((s.callback w ≡ c) × Serves s t o w) → Drained st o w c
       by (inl q) = let z : true ≡ false = rw q at e.0 in let y : ◌≡◌ {A = ℕ} 0 1 = cc in absurd (omega arith)
@@ -140,7 +147,7 @@ module _ (st : Step) (h : List Step) (mo : Moment st) (i : Inv st.before []) (j 
   freed o f w c p wa = by (k.way o w c p wa (omega (arith, last)) (omega (arith, last)))
     where
       last : stage (s.phase o) ≡ 4
-      last = omega (arith, m.frees o (freed_stage (t.phase o) f.1), unfreed_stage (s.phase o) f.0)
+      last = omega (arith, moved.frees o (freed_stage (t.phase o) f.1), unfreed_stage (s.phase o) f.0)
 
       none : length (s.held o) ≡ 0
       none = leaving_round (i.good o (stage_below s i o (omega (arith, last))).0) last

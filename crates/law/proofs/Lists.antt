@@ -3,7 +3,7 @@ use Rattle.std.proofs.Common.{◌≡◌, ℕ, suc, ◌<◌, ◌≤◌, ◌⊎◌
 use Rattle.std.proofs.lemmas.Bool.{ne_eqb, eqb-true, eqb-false, cases_eq, cases_lt, cond_both}
 use Rattle.definition.specs.Base.{count, without}
 use Rattle.definition.specs.State.{State}
-use Rattle.definition.proofs.Sums.{count_cons, count_append, count_length, term_le_sum}
+use Rattle.definition.proofs.Sums.{same, count_cons, count_append, count_length, term_le_sum}
 use Rattle.law.proofs.Invariant.{Falling, lent_by, lent, Inv, alive}
 use Rattle.law.proofs.Stages.{stage, live_stage}
 use Rattle.law.proofs.Told.{Young, young_before, young_round}
@@ -11,10 +11,12 @@ use Rattle.law.proofs.Moved.{Turned, same_as, own, served, plain, new, Unlisted,
 
 -- ---- falling lists hold each but once
 
+-- all behind the first are below it
 pub falling_rest : (n w : ℕ) (l : List ℕ) → Falling n (w ∷ l) → Falling w l
 unfolding Falling
 falling_rest n w l f = f.1
 
+-- all are below the bound
 pub falling_below : (n w : ℕ) (l : List ℕ) → Falling n l → 0 < count w l → w < n
 unfolding Falling
 falling_below n w [] f h = absurd (omega arith)
@@ -24,6 +26,7 @@ falling_below n w (x ∷ l) f h = go (cases_eq w x) (λ k. falling_below x w l f
     go (inl q) r = omega (arith, f.0)
     go (inr ne) r = omega (arith, f.0, r (rw (ne_eqb w x ne) at h))
 
+-- none stands twice
 pub falling_once : (n w : ℕ) (l : List ℕ) → Falling n l → count w l ≤ 1
 unfolding Falling
 falling_once n w [] f = omega arith
@@ -36,6 +39,7 @@ falling_once n w (x ∷ l) f =
     none q (inl h) = let b = falling_below x w l f.1 h in absurd (omega arith)
     none q (inr h) = omega arith
 
+-- so one that is taken out does not stand there
 pub without_one : (n w : ℕ) (l : List ℕ) → Falling n l → count w (without w l) ≡ 0
 unfolding Falling
 without_one n w [] f = refl
@@ -46,20 +50,25 @@ without_one n w (x ∷ l) f =
     (λ e. let ne = eqb-false x w e in rw (ne_eqb w x (λ q. ne (sym q))) (without_one x w l f.1))
   where
     one : (y : ℕ) → count y (y ∷ []) ≡ 1
-    one y = rw (Rattle.definition.proofs.Sums.same y) refl
+    one y = rw (same y) refl
 
 -- ---- what is so of the lists
 
 pub record Lists (s : State) : Type 0 where
+  -- a round with the list behind it falls
   pub falls : (o : ℕ) → Falling s.next (s.held o ++ s.weak o)
+  -- what stands on a list or in a round refers to its object
   pub refers_weak : (o w : ℕ) → 0 < count w (s.weak o) → (s.shape w).referent ≡ o
   pub refers_held : (o w : ℕ) → 0 < count w (s.held o) → (s.shape w).referent ≡ o
+  -- a round holds no 0
   pub named : (o w : ℕ) → 0 < count w (s.held o) → 0 < w
   -- what has left its list does not stand there
   pub standing : (o w : ℕ) → 0 < count w (s.weak o) → stage (s.phase w) ≤ 3
   -- once places are emptied the list is empty
   pub bare : (o w : ℕ) → 3 ≤ stage (s.phase o) → stage (s.phase o) ≤ 4 → count w (s.weak o) ≡ 0
+  -- what has a callback refers to what has been born
   pub below : (w : ℕ) → 0 < s.callback w → (s.shape w).referent < s.next
+  -- and stands on the list of its referent while that is live
   pub listed : (w : ℕ) → 0 < s.callback w → stage (s.phase ((s.shape w).referent)) ≡ 1 → 0 < count w (s.weak ((s.shape w).referent))
 
 -- ---- births
@@ -90,10 +99,12 @@ held_live s i named o w h =
 -- ---- a step keeps it
 
 module _ (s t : State) (i : Inv s []) (j : Inv t []) (m : Moved s t) (l : Lists s) where
+  -- what a list or a round has is born
   pub member : (o w : ℕ) → (0 < count w (s.held o)) ⊎ (0 < count w (s.weak o)) → w < s.next
   member o w (inl h) = falling_below s.next w (s.held o ++ s.weak o) (l.falls o) (omega (arith, count_append w (s.held o) (s.weak o)))
   member o w (inr h) = falling_below s.next w (s.held o ++ s.weak o) (l.falls o) (omega (arith, count_append w (s.held o) (s.weak o)))
 
+  -- what a round holds is no 0
   pub named_after : (o w : ℕ) → 0 < count w (t.held o) → 0 < w
   named_after o w h = by (m.held o w h)
     where
@@ -101,9 +112,11 @@ module _ (s t : State) (i : Inv s []) (j : Inv t []) (m : Moved s t) (l : Lists 
       by (inl k) = l.named o w k
       by (inr k) = (stage_below s i w (omega (arith, l.standing o w k))).0
 
+  -- it is live
   pub live_after : (o w : ℕ) → 0 < count w (t.held o) → stage (t.phase w) ≡ 1
   live_after = held_live t j named_after
 
+  -- and was, if it was held
   pub live_before : (o w : ℕ) → 0 < count w (s.held o) → stage (s.phase w) ≡ 1
   live_before = held_live s i l.named
 
@@ -119,6 +132,7 @@ module _ (s t : State) (i : Inv s []) (j : Inv t []) (m : Moved s t) (l : Lists 
       by (plain q c) = absurd (omega arith)
       by (new q a b c) = absurd (omega arith)
 
+  -- what has left its list is not on it
   standing_after : (o w : ℕ) → 0 < count w (t.weak o) → stage (t.phase w) ≤ 3
   standing_after o w h = by (m.listed o w h) (cases_lt (stage (t.phase w)) 4)
     where
@@ -136,6 +150,7 @@ module _ (s t : State) (i : Inv s []) (j : Inv t []) (m : Moved s t) (l : Lists 
       by (inl k) (inr a) = left k (m.leaves w a)
       by (inr q) (inr a) = absurd (omega (arith, q.3))
 
+  -- what a list has refers to its object
   refers_weak_after : (o w : ℕ) → 0 < count w (t.weak o) → (t.shape w).referent ≡ o
   refers_weak_after o w h = by (m.listed o w h)
     where
@@ -143,6 +158,7 @@ module _ (s t : State) (i : Inv s []) (j : Inv t []) (m : Moved s t) (l : Lists 
       by (inl k) = keeps_referent w (member o w (inr k)) (omega (arith, standing_after o w h)) ∙ l.refers_weak o w k
       by (inr q) = q.1
 
+  -- so does what a round holds
   refers_held_after : (o w : ℕ) → 0 < count w (t.held o) → (t.shape w).referent ≡ o
   refers_held_after o w h = by (m.held o w h)
     where
@@ -150,6 +166,7 @@ module _ (s t : State) (i : Inv s []) (j : Inv t []) (m : Moved s t) (l : Lists 
       by (inl k) = keeps_referent w (member o w (inl k)) (omega (arith, live_after o w h)) ∙ l.refers_held o w k
       by (inr k) = keeps_referent w (member o w (inr k)) (omega (arith, live_after o w h)) ∙ l.refers_weak o w k
 
+  -- once places are emptied the list is empty
   bare_after : (o w : ℕ) → 3 ≤ stage (t.phase o) → stage (t.phase o) ≤ 4 → count w (t.weak o) ≡ 0
   bare_after o w h k = by (m.bare o h k) (cases_lt 0 (count w (t.weak o)))
     where
@@ -162,6 +179,7 @@ module _ (s t : State) (i : Inv s []) (j : Inv t []) (m : Moved s t) (l : Lists 
       by (inl a) (inl p) = absurd (none a (m.listed o w p))
       by (inr f) (inl p) = f w
 
+  -- referents are born
   below_after : (w : ℕ) → 0 < t.callback w → (t.shape w).referent < t.next
   below_after w p = by (m.turned w)
     where
@@ -180,6 +198,7 @@ module _ (s t : State) (i : Inv s []) (j : Inv t []) (m : Moved s t) (l : Lists 
       by (inl a) = a
       by (inr a) = absurd (omega arith)
 
+  -- a watcher of a live object is on its list
   listed_after : (w : ℕ) → 0 < t.callback w → stage (t.phase ((t.shape w).referent)) ≡ 1 → 0 < count w (t.weak ((t.shape w).referent))
   listed_after w p e = by (m.turned w) e
     where
@@ -202,6 +221,7 @@ module _ (s t : State) (i : Inv s []) (j : Inv t []) (m : Moved s t) (l : Lists 
       by (plain q c) a' = absurd (omega arith)
       by (new q a b c) a' = c
 
+  -- all of it
   pub lists_after : Lists t
   lists_after = record {
     falls = λ o. m.falls o (l.falls o);

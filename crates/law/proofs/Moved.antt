@@ -19,6 +19,7 @@ unfolding Falling
 falling_drop n w [] m f = falling_tail n w m f
 falling_drop n w (x ∷ l) m f = (f.0, falling_drop x w l m f.1)
 
+-- one is taken out of the second part
 pub falling_left : (n w : ℕ) (l m : List ℕ) → Falling n (l ++ m) → Falling n (l ++ without w m)
 unfolding Falling
 falling_left n w [] m f = falling_without n w m f
@@ -52,18 +53,27 @@ pub data Unlisted (s t : State) (o w : ℕ) : Type 0 where
 pub record Moved (s t : State) : Type 0 where
   pub ages : Ages s t
   pub turned : (w : ℕ) → Turned s t w
+  -- a callback turn is open already, or opens for what is served
   pub calls : (o c w : ℕ) → t.phase o ≡ Calling c w → (s.phase o ≡ Calling c w) ⊎ ((s.callback w ≡ c) × Serves s t o w)
+  -- what stands on a list stood there, or is a new reference to a live object
   pub listed : (o w : ℕ) → 0 < count w (t.weak o) → (0 < count w (s.weak o)) ⊎ ((w ≡ s.next) × ((t.shape w).referent ≡ o) × (stage (s.phase o) ≡ 1) × (stage (t.phase w) ≡ 1))
   pub unlisted : (o w : ℕ) → 0 < count w (s.weak o) → Unlisted s t o w
+  -- a round takes from the list of its own object
   pub held : (o w : ℕ) → 0 < count w (t.held o) → (0 < count w (s.held o)) ⊎ (0 < count w (s.weak o))
+  -- what it lets go has no callback then, or its object is freed
   pub unheld : (o w : ℕ) → 0 < count w (s.held o) → (0 < count w (t.held o)) ⊎ ((t.callback w ≡ 0) ⊎ (stage (t.phase o) ≡ 5))
+  -- a round with the list behind it goes on falling
   pub falls : (o : ℕ) → Falling s.next (s.held o ++ s.weak o) → Falling t.next (t.held o ++ t.weak o)
+  -- places are emptied only when the list is empty
   pub bare : (o : ℕ) → 3 ≤ stage (t.phase o) → stage (t.phase o) ≤ 4 → ((3 ≤ stage (s.phase o)) × (stage (s.phase o) ≤ 4)) ⊎ ((w : ℕ) → count w (t.weak o) ≡ 0)
+  -- what has all its places emptied is taken off the list of its referent
   pub leaves : (w : ℕ) → 4 ≤ stage (t.phase w) → (4 ≤ stage (s.phase w)) ⊎ (t.weak ((s.shape w).referent) ≡ without w (s.weak ((s.shape w).referent)))
+  -- and only then is it freed
   pub frees : (o : ℕ) → stage (t.phase o) ≡ 5 → 4 ≤ stage (s.phase o)
 
 -- ---- steps that leave lists, rounds, callbacks and referents alone
 
+-- the fields that this rests on
 pub record View : Type 0 where
   pub phase : ℕ → Phase
   pub shape : ℕ → Shape
@@ -72,9 +82,11 @@ pub record View : Type 0 where
   pub held : ℕ → List ℕ
   pub next : ℕ
 
+-- of a state
 abbrev pub view : State → View
 view s = record { phase = s.phase; shape = s.shape; callback = s.callback; weak = s.weak; held = s.held; next = s.next }
 
+-- lists, rounds, callbacks and shapes stay, and objects come further
 pub record Alike (s t : View) : Type 0 where
   pub callback : (w : ℕ) → t.callback w ≡ s.callback w
   pub shape : (w : ℕ) → t.shape w ≡ s.shape w
@@ -82,7 +94,9 @@ pub record Alike (s t : View) : Type 0 where
   pub held : (o : ℕ) → t.held o ≡ s.held o
   pub next : t.next ≡ s.next
   pub older : (o : ℕ) → stage (s.phase o) ≤ stage (t.phase o)
+  -- none comes further than clearing, but one with an empty list, to the emptying of its places
   pub low : (o : ℕ) → 3 ≤ stage (t.phase o) → (stage (s.phase o) ≡ stage (t.phase o)) ⊎ ((stage (t.phase o) ≡ 3) × (s.weak o ≡ []))
+  -- no callback turn opens
   pub calls : (o c w : ℕ) → t.phase o ≡ Calling c w → s.phase o ≡ Calling c w
 
 abbrev pub Same : State → State → Type 0
@@ -101,9 +115,11 @@ phase_same s o p l f g = record {
   calls = point (λ y. (c w : ℕ) → put s.phase o p y ≡ Calling c w → s.phase y ≡ Calling c w) o (rw (same o) g) (λ y ne. rw (ne_eqb y o ne) (λ c w e. e));
 }
 
+-- a step that changes nothing
 pub same_refl : (s : State) → Same s s
 same_refl s = record { callback = λ w. refl; shape = λ w. refl; weak = λ w. refl; held = λ w. refl; next = refl; older = λ o. omega arith; low = λ o h. inl refl; calls = λ o c w e. e }
 
+-- two steps in one
 pub same_trans : (s m t : State) → Same s m → Same m t → Same s t
 same_trans s m t a b = record {
   callback = λ w. b.callback w ∙ a.callback w;

@@ -14,6 +14,7 @@ use Rattle.law.proofs.Moved.{Turned, same_as, plain, new, Unlisted, stays, Moved
 use Rattle.law.proofs.Serves.{count_more, count_rest}
 
 module _ (s : State) (handles : ℕ → ℕ) where
+  -- the next birth rests
   abbrev phase : ℕ → Phase
   phase = put s.phase s.next Resting
 

@@ -28,9 +28,11 @@ pub record Served (st : Step) (h : List Step) : Type 0 where
 abbrev pub Story : State → List Step → Type 0
 Story s h = Told s h × Linked s h
 
+-- every step keeps it
 pub story_kept : (st : Step) (h : List Step) → Moment st → Inv st.before [] → Inv st.after [] → Story st.before h → Story st.after (st ∷ h)
 story_kept st h m i j k = (told_kept st h m i j k.0, linked_after st h m i j k.0 k.1)
 
+-- and the six fields follow from it
 pub story_served : (st : Step) (h : List Step) → Moment st → Inv st.before [] → Inv st.after [] → Story st.before h → Served st h
 story_served st h m i j k = record {
   kept = kept st h m k.0;
@@ -68,5 +70,6 @@ served_kept : (st : Step) (h : List Step) → Made Between st → Story st.befor
 served_kept st h m j =
     let moment = kind st m in (story_served st h moment (made_before st m) (made_after st m) j, story_kept st h moment (made_before st m) (made_after st m) j)
 
+-- over every run
 pub every_served : (cs : List Call) (s : State) → Between s → Story s [] → Every Served (history (run cs s))
 every_served cs s b = every_step Between (λ c s i k g. (change_always c s k g).inv) (λ c s i k. each_between c s k) (λ h s. Story s h) Served served_kept cs s b.always.inv b

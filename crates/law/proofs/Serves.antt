@@ -13,9 +13,11 @@ use Rattle.law.proofs.Moved.{falling_drop, same_as, Unlisted, stays, taken, pass
 
 -- ---- counts
 
+-- one more in front
 pub count_more : (x y : ℕ) (l : List ℕ) → 0 < count x l → 0 < count x (y ∷ l)
 count_more x y l h = omega (arith, count_cons x y l)
 
+-- what is not the first is behind it
 pub count_rest : (x y : ℕ) (l : List ℕ) → (x ≡ y → ⊥) → 0 < count x (y ∷ l) → 0 < count x l
 count_rest x y l ne h = rw (ne_eqb x y ne) at h
 
@@ -29,6 +31,7 @@ spent_not_live s i w sp e =
 -- ---- a round takes a reference
 
 module _ (s : State) (i : Inv s []) (o w : ℕ) (rest : List ℕ) (r : Rounds s o) (wk : s.weak o ≡ w ∷ rest) where
+  -- o is in its second stage
   low : stage (s.phase o) ≡ 2
   low = by r
     where
@@ -36,12 +39,15 @@ module _ (s : State) (i : Inv s []) (o w : ℕ) (rest : List ℕ) (r : Rounds s 
       by (inl ph) = rw ph refl
       by (inr d) = rw d.0 refl
 
+  -- it is passed over
   abbrev off : State
   off = with_phase o Taking (with_weak o rest (uncached w o s))
 
+  -- it is held
   abbrev on : State
   on = with_held o (s.held o ++ (w ∷ [])) (more w off)
 
+  -- nobody goes back
   older : (y : ℕ) → stage (s.phase y) ≤ stage (put s.phase o Taking y)
   older = phase_older s o Taking (omega (arith, low))
 
@@ -49,9 +55,11 @@ module _ (s : State) (i : Inv s []) (o w : ℕ) (rest : List ℕ) (r : Rounds s 
   calls : (y c v : ℕ) → put s.phase o Taking y ≡ Calling c v → s.phase y ≡ Calling c v
   calls = point (λ y. (c v : ℕ) → put s.phase o Taking y ≡ Calling c v → s.phase y ≡ Calling c v) o (λ c v e. let e' : Taking ≡ Calling c v = rw (same o) at e in let z : ◌≡◌ {A = ℕ} 0 1 = cc in absurd (omega arith)) (λ y ne c v e. rw (ne_eqb y o ne) at e)
 
+  -- no list has more
   listed : (y v : ℕ) → 0 < count v (put s.weak o rest y) → 0 < count v (s.weak y)
   listed = point (λ y. (v : ℕ) → 0 < count v (put s.weak o rest y) → 0 < count v (s.weak y)) o (λ v h. rw wk (count_more v w rest (rw (same o) at h))) (λ y ne v h. rw (ne_eqb y o ne) at h)
 
+  -- all stages stay
   stages : (y : ℕ) → stage (put s.phase o Taking y) ≡ stage (s.phase y)
   stages = point (λ y. stage (put s.phase o Taking y) ≡ stage (s.phase y)) o (rw (same o) (omega (arith, low))) (λ y ne. rw (ne_eqb y o ne) refl)
 
@@ -99,5 +107,6 @@ module _ (s : State) (i : Inv s []) (o w : ℕ) (rest : List ℕ) (r : Rounds s 
       from v h (inl k) = inl k
       from v h (inr k) = inr (rw wk (omega (arith, count_append v (s.held o) (w ∷ []), count_cons v w rest)))
 
+  -- both ways
   pub takes_moved : Moved s (takes w rest o s)
   takes_moved = cond_both (spent s w) off on (Moved s) off_moved (λ e. on_moved)

@@ -23,6 +23,7 @@ stage Leaving = 4
 
 -- ---- what stages tell
 
+-- what is live is at the first stage
 pub live_stage : (p : Phase) → is_live p ≡ true → stage p ≡ 1
 live_stage Absent e = let z : ◌≡◌ {A = ℕ} 0 1 = cc in absurd (omega arith)
 live_stage Resting e = refl
@@ -33,6 +34,7 @@ live_stage (Calling c w) e = let z : ◌≡◌ {A = ℕ} 0 1 = cc in absurd (ome
 live_stage (Freeing k) e = let z : ◌≡◌ {A = ℕ} 0 1 = cc in absurd (omega arith)
 live_stage Leaving e = let z : ◌≡◌ {A = ℕ} 0 1 = cc in absurd (omega arith)
 
+-- and what is there is live
 pub stage_live : (p : Phase) → stage p ≤ 1 → is_live p ≡ true
 stage_live Absent e = absurd (omega arith)
 stage_live Resting e = refl
@@ -54,6 +56,7 @@ cleared_stage (Calling c w) e d = omega arith
 cleared_stage (Freeing k) e d = omega arith
 cleared_stage Leaving e d = omega arith
 
+-- and what is between is cleared and unfreed
 pub stage_cleared : (p : Phase) → 2 ≤ stage p → stage p ≤ 4 → (is_unfreed p ≡ true) × (is_live p ≡ false)
 stage_cleared Absent e d = absurd (omega arith)
 stage_cleared Resting e d = absurd (omega arith)
@@ -64,6 +67,7 @@ stage_cleared (Calling c w) e d = (refl, refl)
 stage_cleared (Freeing k) e d = (refl, refl)
 stage_cleared Leaving e d = (refl, refl)
 
+-- stages go from 1 to 5
 pub stage_range : (p : Phase) → (1 ≤ stage p) × (stage p ≤ 5)
 stage_range Absent = omega arith
 stage_range Resting = omega arith
@@ -74,6 +78,7 @@ stage_range (Calling c w) = omega arith
 stage_range (Freeing k) = omega arith
 stage_range Leaving = omega arith
 
+-- what is unfreed is at one before the last
 pub unfreed_stage : (p : Phase) → is_unfreed p ≡ true → stage p ≤ 4
 unfreed_stage Absent e = let z : ◌≡◌ {A = ℕ} 0 1 = cc in absurd (omega arith)
 unfreed_stage Resting e = omega arith
@@ -89,6 +94,7 @@ unfreed_stage Leaving e = omega arith
 abbrev pub Older : State → State → Type 0
 Older s t = (o : ℕ) → stage (s.phase o) ≤ stage (t.phase o)
 
+-- one object comes further
 pub phase_older : (s : State) (o : ℕ) (p : Phase) → stage (s.phase o) ≤ stage p → (y : ℕ) → stage (s.phase y) ≤ stage (put s.phase o p y)
 phase_older s o p l = point (λ y. stage (s.phase y) ≤ stage (put s.phase o p y)) o (rw (same o) l) (λ y ne. rw (ne_eqb y o ne) (omega arith))
 
@@ -99,6 +105,7 @@ give_up_older s m x f = give_up_cases m x (Older s) (λ lo. f) (λ lo e. f) (λ 
     from : m.phase x ≡ Resting → (p : Phase) → 1 ≤ stage p → (y : ℕ) → stage (s.phase y) ≤ stage (put m.phase x p y)
     from ph p l = point (λ y. stage (s.phase y) ≤ stage (put m.phase x p y)) x (rw (same x) (let q = rw ph at (f x) in omega arith)) (λ y ne. rw (ne_eqb y x ne) (f y))
 
+-- taking a reference off
 takes_older : (s : State) (o w : ℕ) (rest : List ℕ) → Rounds s o → Older s (takes w rest o s)
 takes_older s o w rest r = cond_both (spent s w) _ _ (Older s) (λ e. phase_older s o Taking (low r)) (λ e. phase_older s o Taking (low r))
   where
@@ -106,6 +113,7 @@ takes_older s o w rest r = cond_both (spent s w) _ _ (Older s) (λ e. phase_olde
     low (inl ph) = rw ph (omega arith)
     low (inr d) = rw d.0 (omega arith)
 
+-- taking a callback out
 drains_older : (s : State) (o w : ℕ) (ws : List ℕ) → s.phase o ≡ Draining → Older s (drains w ws o s)
 drains_older s o w ws ph = cond_both (s.attends && not (eqb (s.callback w) 0)) _ _ (Older s) (λ e. phase_older s o (Calling (s.callback w) w) (rw ph (omega arith))) (λ e y. omega arith)
 
@@ -134,15 +142,19 @@ pub record Ages (s t : State) : Type 0 where
   pub next : s.next ≤ t.next
   pub stages : (o : ℕ) → (stage (s.phase o) ≤ stage (t.phase o)) ⊎ ((o ≡ s.next) × (t.phase o ≡ Resting))
 
+-- where no birth is given
 pub older_ages : (s t : State) → s.next ≡ t.next → Older s t → Ages s t
 older_ages s t e f = record { next = omega arith; stages = λ o. inl (f o) }
 
+-- where one is
 pub born_ages : (s t : State) → t.next ≡ suc s.next → ((y : ℕ) → t.phase y ≡ put s.phase s.next Resting y) → Ages s t
 born_ages s t e f = record { next = omega arith; stages = point (λ y. (stage (s.phase y) ≤ stage (t.phase y)) ⊎ ((y ≡ s.next) × (t.phase y ≡ Resting))) s.next (inr (refl, rw (f s.next, same s.next) refl)) (λ y ne. inl (rw (f y, ne_eqb y s.next ne) (omega arith))) }
 
+-- an exchange
 exchanged_ages : (s t : State) (o k v : ℕ) → t.next ≡ s.next → ((y : ℕ) → t.phase y ≡ s.phase y) → Ages s (exchanged o k v t)
 exchanged_ages s t o k v e f = let u = with_places o (set (t.places o) k v) t in cond_both (loose u (content t o k)) _ u (Ages s) (λ l. record { next = omega arith; stages = λ y. inl (rw (f y) (omega arith)) }) (λ l. record { next = omega arith; stages = λ y. inl (rw (f y) (omega arith)) })
 
+-- handles
 hold_all_ages : (s : State) (os : List ℕ) (t : State) → Ages s t → Ages s (hold_all os t)
 hold_all_ages s [] t a = a
 hold_all_ages s (o ∷ os) t a = hold_all_ages s os (hold o t) record { next = a.next; stages = a.stages }
@@ -164,6 +176,7 @@ back_older s t o below f (Calling c w) ph = point (λ y. stage (s.phase y) ≤ s
 back_older s t o below f (Freeing k) ph = λ y. rw (f y) (omega arith)
 back_older s t o below f Leaving ph = λ y. rw (f y) (omega arith)
 
+-- whatever is handed back
 newest_older : (s : State) (l : List ℕ) → Older s (newest_back l s)
 newest_older s [] y = omega arith
 newest_older s (o ∷ below) y = back_older s (with_turns (s.turns - 1) s) o below (λ z. refl) (s.phase o) refl y
@@ -172,6 +185,7 @@ newest_older s (o ∷ below) y = back_older s (with_turns (s.turns - 1) s) o bel
 pub give_up_next : (s : State) (x : ℕ) → (give_up x s).next ≡ s.next
 give_up_next s x = give_up_cases s x (λ t. t.next ≡ s.next) (λ lo. refl) (λ lo e. refl) (λ lo ph e. (λ a. refl, λ a. refl))
 
+-- nor does what a hand back ends
 back_next : (p : Phase) (o : ℕ) (below : List ℕ) (s : State) → (handed_back p o below s).next ≡ s.next
 back_next Absent o below s = refl
 back_next Resting o below s = refl
@@ -182,6 +196,7 @@ back_next (Calling c w) o below s = refl
 back_next (Freeing k) o below s = refl
 back_next Leaving o below s = refl
 
+-- whatever is handed back
 newest_next : (s : State) (l : List ℕ) → (newest_back l s).next ≡ s.next
 newest_next s [] = refl
 newest_next s (o ∷ below) = back_next (s.phase o) o below (with_turns (s.turns - 1) s)
@@ -223,5 +238,6 @@ advance_next s = advance_cases s (λ (t : State). t.next ≡ s.next) (record {
   frees = λ o below top gv ph. refl;
 })
 
+-- so a small step ages
 pub advance_ages : (s : State) → Ages s (advance s)
 advance_ages s = older_ages s (advance s) (omega (arith, advance_next s)) (advance_older s)

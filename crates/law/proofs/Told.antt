@@ -28,11 +28,13 @@ Told s h = (o : ℕ) → Young s o → Never (Late o) h
 
 -- ---- a step ages
 
+-- every step ages
 pub moment_ages : (st : Step) → Moment st → Ages st.before st.after
 moment_ages st (granting c s g) = outcome_ages c s
 moment_ages st (refusing c fault s) = older_ages s s refl (λ y. omega arith)
 moment_ages st (moving s e) = advance_ages s
 
+-- what is live or not yet born was so before
 pub young_before : (s t : State) → Ages s t → (o : ℕ) → Young t o → Young s o
 young_before s t a o (inl e) = by (a.stages o)
   where
@@ -41,6 +43,7 @@ young_before s t a o (inl e) = by (a.stages o)
     by (inr q) = inr (omega (arith, q.0))
 young_before s t a o (inr l) = inr (omega (arith, a.next))
 
+-- it is at the first stage or nobody
 young_stage : (s : State) → Inv s [] → (o : ℕ) → Young s o → (stage (s.phase o) ≡ 1) ⊎ (stage (s.phase o) ≡ 5)
 young_stage s i o (inl e) = inl e
 young_stage s i o (inr l) = inr (rw (i.frame.fresh o (inr l)) refl)
@@ -67,6 +70,7 @@ good_round {p = (Calling c x)} i (inr e) = absurd (omega arith)
 good_round {p = (Freeing n)} i y = omega (arith, i)
 good_round {p = Leaving} i y = omega (arith, i)
 
+-- its round is empty
 pub young_round : (s : State) → Inv s [] → (o : ℕ) → Young s o → length (s.held o) ≡ 0
 young_round s i o y = go (cases_eq o 0)
   where
@@ -94,6 +98,7 @@ told_kept st h m i j t o y = by
 
 -- ---- one event for another
 
+-- what has happened has happened by another name
 pub once_map : {P Q : Step → Type 0} → ((e : Step) → P e → Q e) → (h : List Step) → Once P h → Once Q h
 once_map f [] b = elim b [ ]
 once_map f (e ∷ h) (here p) = here (f e p)
@@ -101,11 +106,13 @@ once_map f (e ∷ h) (before b) = before (once_map f h b)
 
 -- ---- what an upgrade answers
 
+-- the call of a step
 abbrev call_of : What → Call
 call_of (Accepted c r) = c
 call_of (Refused c fault) = c
 call_of Small = Hold 0
 
+-- its reply
 abbrev reply_of : What → Reply → Reply
 reply_of (Accepted c r) d = r
 reply_of (Refused c fault) d = d
@@ -120,6 +127,7 @@ answered_live w s =
     (λ a p. (and_parts (is_live (s.phase r)) (not (spent s r)) a).0)
     (λ a p. absurd (omega arith))
 
+-- the same of a step that is an upgrade
 upgraded_live : (st : Step) → Moment st → (w : ℕ) (r : Reply) → st.what ≡ Accepted (Upgrade w) r → 0 < r.number → Live st.before r.number
 upgraded_live st (granting c s g) w r e p =
     let q : c ≡ Upgrade w = ap call_of e in
@@ -135,6 +143,7 @@ upgrades st h m t w r e p =
     let l = upgraded_live st m w r e p in
     (l, λ b. t r.number (inl (live_stage (st.before.phase r.number) l)) (once_map (λ e c. clears c) h b))
 
+-- what rests is at the first stage
 resting_stage : (p : Phase) → is_resting p ≡ true → stage p ≡ 1
 resting_stage Absent e = let z : ◌≡◌ {A = ℕ} 0 1 = cc in absurd (omega arith)
 resting_stage Resting e = refl

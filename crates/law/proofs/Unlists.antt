@@ -12,10 +12,12 @@ use Rattle.law.proofs.Moved.{falling_left, Turned, same_as, own, Unlisted, stays
 
 -- ---- a list without one of it
 
+-- none stands more often
 without_less : (v w : ℕ) (l : List ℕ) → count v (without w l) ≤ count v l
 without_less v w [] = omega arith
 without_less v w (x ∷ l) = cond_both (eqb x w) l (x ∷ without w l) (λ (k : List ℕ). count v k ≤ count v (x ∷ l)) (λ e. omega (arith, count_cons v x l)) (λ e. omega (arith, count_cons v x l, count_cons v x (without w l), without_less v w l))
 
+-- all others stand as often
 without_keeps : (v w : ℕ) (l : List ℕ) → (v ≡ w → ⊥) → count v l ≤ count v (without w l)
 without_keeps v w [] ne = omega arith
 without_keeps v w (x ∷ l) ne =
@@ -26,15 +28,19 @@ without_keeps v w (x ∷ l) ne =
 -- ---- a weak reference leaves its list, and gives up its callback
 
 module _ (s : State) (o k : ℕ) (ph : s.phase o ≡ Freeing k) where
+  -- its referent
   abbrev r : ℕ
   r = (s.shape o).referent
 
+  -- the state before its callback is given up
   abbrev m : State
   m = with_phase o Leaving (with_callback o 0 (unlisted o s))
 
+  -- nobody goes back
   low : (y : ℕ) → stage (s.phase y) ≤ stage (m.phase y)
   low = phase_older s o Leaving (rw ph (omega arith))
 
+  -- no list has more
   fewer : (y v : ℕ) → 0 < count v (m.weak y) → 0 < count v (s.weak y)
   fewer = point (λ y. (v : ℕ) → 0 < count v (m.weak y) → 0 < count v (s.weak y)) r (λ v h. let h' : 0 < count v (without o (s.weak r)) = rw (same r) at h in omega (arith, without_less v o (s.weak r))) (λ y ne v h. rw (ne_eqb y r ne) at h)
 
@@ -42,6 +48,7 @@ module _ (s : State) (o k : ℕ) (ph : s.phase o ≡ Freeing k) where
   more : (y v : ℕ) → (v ≡ o → ⊥) → 0 < count v (s.weak y) → 0 < count v (m.weak y)
   more = point (λ y. (v : ℕ) → (v ≡ o → ⊥) → 0 < count v (s.weak y) → 0 < count v (m.weak y)) r (λ v n h. rw (same r) (omega (arith, without_keeps v o (s.weak r) n))) (λ y ne v n h. rw (ne_eqb y r ne) h)
 
+  -- lists and rounds still fall
   left : (y : ℕ) → Falling s.next (s.held y ++ s.weak y) → Falling s.next (s.held y ++ m.weak y)
   left = point (λ y. Falling s.next (s.held y ++ s.weak y) → Falling s.next (s.held y ++ m.weak y)) r (λ f. rw (same r) (falling_left s.next o (s.held r) (s.weak r) f)) (λ y ne f. rw (ne_eqb y r ne) f)
 

@@ -12,17 +12,20 @@ use Rattle.law.proofs.StepKinds.{Moment}
 use Rattle.law.proofs.Told.{Told, clears, drains, takes, once_map}
 use Rattle.law.proofs.Moved.{Serves, Turned, same_as, own, served, plain, new, Unlisted, stays, taken, passed, over, Moved}
 use Rattle.law.proofs.Lists.{falling_rest, falling_below, falling_once, member, live_after, live_before, live_earlier, lists_after}
-use Rattle.law.proofs.Linked.{Way, gone, round, waits, ended, Linked, watcher_born, m, served_drained, drained_served, in_round}
+use Rattle.law.proofs.Linked.{Way, gone, round, waits, ended, Linked, watcher_born, moved, served_drained, drained_served, in_round}
 
 module _ (st : Step) (h : List Step) (mo : Moment st) (i : Inv st.before []) (j : Inv st.after []) (told : Told st.before h) (k : Linked st.before h) where
+  -- before
   abbrev s : State
   s = st.before
 
+  -- after
   abbrev t : State
   t = st.after
 
+  -- what the step does to weak references
   abbrev mv : Moved s t
-  mv = m st h mo i j told k
+  mv = moved st h mo i j told k
 
   -- what is cleared now was cleared before, or its clearing has just begun
   cleared_before : (o : ℕ) → 2 ≤ stage (t.phase o) → stage (t.phase o) ≤ 4 → ((2 ≤ stage (s.phase o)) × (stage (s.phase o) ≤ 4)) ⊎ (Clears st o × (stage (s.phase o) ≡ 1))
@@ -33,6 +36,7 @@ module _ (st : Step) (h : List Step) (mo : Moment st) (i : Inv st.before []) (j 
       by (inl l) (inr q) = inl (q, omega arith)
       by (inr r) q = let z : 2 ≤ 1 = rw r.1 at a in absurd (omega arith)
 
+  -- watchers of the cleared are those of when clearing began
   watched_after : (o w : ℕ) → 2 ≤ stage (t.phase o) → stage (t.phase o) ≤ 4 → (t.shape w).referent ≡ o → 0 < t.callback w → Watched (st ∷ h) o w (t.callback w)
   watched_after o w a b r p = by (mv.turned w)
     where
@@ -56,6 +60,7 @@ module _ (st : Step) (h : List Step) (mo : Moment st) (i : Inv st.before []) (j 
       by (inl a) = inl (inr a)
       by (inr q) = inr q.2
 
+  -- what is left is older than what has lost its callback
   order_after : (o v d w : ℕ) → Once (λ e. Drained e o v d) (st ∷ h) → (0 < count w (t.held o)) ⊎ (0 < count w (t.weak o)) → w < v
   order_after o v d w (here a) n = first n (left_before o w n)
     where
@@ -102,6 +107,7 @@ module _ (st : Step) (h : List Step) (mo : Moment st) (i : Inv st.before []) (j 
     waiting (inl l) (over e) = absurd (omega arith)
     waiting (inr l) u = ended (never_dead o w nt (λ e. omega arith)) (λ e. omega arith) (omega (arith, mv.ages.next))
 
+  -- what is live was, if it was born
   earlier : (w : ℕ) → w < s.next → stage (t.phase w) ≡ 1 → stage (s.phase w) ≡ 1
   earlier = live_earlier s t i j mv k.lists
 
@@ -161,6 +167,7 @@ module _ (st : Step) (h : List Step) (mo : Moment st) (i : Inv st.before []) (j 
       by (plain q x) (inl l) = absurd (omega (arith, lo))
       by (new q x y z) (inl l) = absurd (omega (arith, lo))
 
+  -- of every watcher
   way_after : (o w c : ℕ) → 0 < c → Watched (st ∷ h) o w c → 2 ≤ stage (t.phase o) → stage (t.phase o) ≤ 4 → Way t (st ∷ h) o w c
   way_after o w c p (here q) a b = way_first o w c p b (live_stage (s.phase o) q.0.0) q.1 q.2
   way_after o w c p (before q) a b = by (cleared_before o a b)
@@ -169,5 +176,6 @@ module _ (st : Step) (h : List Step) (mo : Moment st) (i : Inv st.before []) (j 
       by (inl e) = way_on o w c p b (k.way o w c p q e.0 e.1)
       by (inr e) = absurd (told o (inl e.1) (once_map (λ x y. clears y.0) h q))
 
+  -- all of it
   pub linked_after : Linked t (st ∷ h)
   linked_after = record { lists = lists_after s t i j mv k.lists; watched = watched_after; order = order_after; way = way_after }
