@@ -169,6 +169,12 @@ pub record Law (cs : List Call) (start : State) : Type 0 where
   -- no work is left: nothing is dying, or the newest death waits for a hand back
   pub finished : rests (end cs start) ≡ true
 
+-- what is so of each run: for every core that can be opened, and every list of calls, of the calls with their answers and of the
+-- state that they have come to
+abbrev pub OfEveryRun : (List Exchange → State → Type 0) → Type 0
+OfEveryRun P =
+    (capacity first : ℕ) (classes : List Class) → can_open capacity first classes ≡ true → (cs : List Call) → P (run cs (opening capacity first classes)) (end cs (opening capacity first classes))
+
 -- for every core that can be opened, and every list of calls
 abbrev pub HoldsOfEveryRun : Type 0
 HoldsOfEveryRun = (capacity first : ℕ) (classes : List Class) → can_open capacity first classes ≡ true → (cs : List Call) → Law cs (opening capacity first classes)
