@@ -2,6 +2,7 @@ pub mod Base
 pub mod Calls
 pub mod Changes
 pub mod Death
+pub mod Examples
 pub mod Opening
 pub mod Questions
 pub mod Refusals
