@@ -1,5 +1,5 @@
--- Worked examples: lists of calls on a core that has just been opened.
-use Rattle.std.specs.Prelude.{ℕ, Bool, true, false, List, [], ◌∷◌, ◌++◌, map, replicate, Some, None, Ok, Err}
+-- Worked examples: calls on a core that has just been opened, and what they are answered.
+use Rattle.std.specs.Prelude.{ℕ, true, false, List, [], ◌∷◌, ◌++◌, map, replicate, Some, None, Ok, Err}
 use Rattle.refusal.specs.declared.Refusal.{Refusal}
 use Rattle.refusal.specs.declared.Refusal.TheVariants.{NoSuch, NoPlace, CountFull}
 use Rattle.classes.specs.Rows.{Class}
@@ -77,69 +77,106 @@ opens depth asked = Replies (Ok (record { number = 0; freed = []; listed = []; t
 abbrev pub no : Refusal → ℕ → Answer
 no refusal argument = Replies (Err (record { refusal = refusal; argument = argument }))
 
+-- ---- an example: entries, each with what it is answered
+
+abbrev pub Lines : Type 0
+Lines = List (Entry × Answer)
+
+abbrev pub entries : Lines → List Entry
+entries lines = map (λ line. line.0) lines
+
+abbrev pub replies : Lines → List Answer
+replies lines = map (λ line. line.1) lines
+
 -- ---- the list that docs/LISTS.md prints
 
-abbrev pub worked : List Entry
-worked = attend ∷ make 3 ∷ weaken 1 1 0 ∷ weaken 1 1 0 ∷ drop 1 ∷ upgrade 2 ∷ hand_back 1 ∷ drop 1 ∷ hand_back 1 ∷ upgrade 2 ∷ drop 1 ∷ []
+abbrev pub worked : Lines
+worked =
+    (attend, ok 0)
+    ∷ (make 3, ok 1)
+    ∷ (weaken 1 1 0, ok 2)
+    ∷ (weaken 1 1 0, ok 2)
+    ∷ (drop 1, opens 1 (Del 1 3))
+    ∷ (upgrade 2, ok 1)
+    ∷ (hand_back 1, ok 0)
+    ∷ (drop 1, opens 1 (Del 1 3))
+    ∷ (hand_back 1, ok_freed (1 ∷ []))
+    ∷ (upgrade 2, ok 0)
+    ∷ (drop 1, no NoSuch 1)
+    ∷ []
 
-abbrev pub worked_answers : List Answer
-worked_answers =
-    ok 0 ∷ ok 1 ∷ ok 2 ∷ ok 2 ∷ opens 1 (Del 1 3) ∷ ok 1 ∷ ok 0 ∷ opens 1 (Del 1 3) ∷ ok_freed (1 ∷ []) ∷ ok 0 ∷ no NoSuch 1 ∷ []
+-- ---- of two slots, 0 and 1, slot 1 is stored into, and there is no slot 2
 
--- ---- two slots: 0 and 1
+abbrev pub slots : Lines
+slots =
+    (make 2, ok 1)
+    ∷ (make 2, ok 2)
+    ∷ (hold 2, ok 0)
+    ∷ (store 1 1 2, ok 0)
+    ∷ (store 1 2 2, no NoPlace 2)
+    ∷ (store 1 1 0, ok 2)
+    ∷ []
 
-abbrev pub slots : List Entry
-slots = make 2 ∷ make 2 ∷ hold 2 ∷ store 1 1 2 ∷ store 1 2 2 ∷ store 1 1 0 ∷ []
+-- ---- two references of class 5 differ; two of class 1 are one, as neither has a callback
 
-abbrev pub slots_answers : List Answer
-slots_answers = ok 1 ∷ ok 2 ∷ ok 0 ∷ ok 0 ∷ no NoPlace 2 ∷ ok 2 ∷ []
+abbrev pub twice : Lines
+twice =
+    (make 2, ok 1)
+    ∷ (weaken 5 1 0, ok 2)
+    ∷ (weaken 5 1 0, ok 3)
+    ∷ (weaken 1 1 0, ok 4)
+    ∷ (weaken 1 1 0, ok 4)
+    ∷ []
 
--- ---- two references of class 5 and then two of class 1, none with a callback
+-- ---- an object of class 4 runs the del of class 3, its ancestor
 
-abbrev pub twice : List Entry
-twice = make 2 ∷ weaken 5 1 0 ∷ weaken 5 1 0 ∷ weaken 1 1 0 ∷ weaken 1 1 0 ∷ []
+abbrev pub inherited : Lines
+inherited =
+    (attend, ok 0)
+    ∷ (make 4, ok 1)
+    ∷ (drop 1, opens 1 (Del 1 3))
+    ∷ (hand_back 1, ok_freed (1 ∷ []))
+    ∷ []
 
-abbrev pub twice_answers : List Answer
-twice_answers = ok 1 ∷ ok 2 ∷ ok 3 ∷ ok 4 ∷ ok 4 ∷ []
-
--- ---- the del of an ancestor
-
-abbrev pub inherited : List Entry
-inherited = attend ∷ make 4 ∷ drop 1 ∷ hand_back 1 ∷ []
-
-abbrev pub inherited_answers : List Answer
-inherited_answers = ok 0 ∷ ok 1 ∷ opens 1 (Del 1 3) ∷ ok_freed (1 ∷ []) ∷ []
-
--- ---- an object with a handle that its making gave, and so many that holds gave
+-- ---- an object is made, which counts one, and held n times. At a count of 65,534 it is held again, and at 65,535 it is not
 
 unfoldable pub held : ℕ → List Entry
 held n = make 2 ∷ replicate n (hold 1)
 
-abbrev pub two_holds : List Entry
-two_holds = Asks (StrongCount 1) ∷ hold 1 ∷ Asks (StrongCount 1) ∷ hold 1 ∷ []
+abbrev pub filled : Lines
+filled =
+    (Asks (StrongCount 1), Tells (Ok 65534))
+    ∷ (hold 1, ok 0)
+    ∷ (Asks (StrongCount 1), Tells (Ok 65535))
+    ∷ (hold 1, no CountFull 0)
+    ∷ []
 
-abbrev pub two_holds_answers : List Answer
-two_holds_answers = Tells (Ok 65534) ∷ ok 0 ∷ Tells (Ok 65535) ∷ no CountFull 0 ∷ []
-
--- ---- an object and its seventeen references, 3 the oldest and 19 the newest, with a handle and the callback 2 each
+-- ---- object 1 gets seventeen references: 3 is the oldest, 19 the newest. The host has a handle of each, and none of
+-- their callback, object 2
 
 abbrev pub seventeen : List Entry
 seventeen = attend ∷ make 2 ∷ make 2 ∷ replicate 16 (hold 2) ++ replicate 17 (weaken 5 1 2)
 
--- a turn for a reference
+-- the turn of a reference, and a hand back that is followed by it
 abbrev pub turn : ℕ → Answer
 turn w = opens 1 (Callback 2 w)
 
--- the object dies
-abbrev pub death : List Entry
-death = drop 1 ∷ replicate 17 (hand_back 1)
+abbrev pub next : ℕ → Entry × Answer
+next w = (hand_back 1, turn w)
 
-abbrev pub death_answers : List Answer
-death_answers = map turn (19 ∷ 18 ∷ 17 ∷ 16 ∷ 15 ∷ 14 ∷ 13 ∷ 12 ∷ 11 ∷ 10 ∷ 9 ∷ 8 ∷ 7 ∷ 6 ∷ 5 ∷ 4 ∷ 3 ∷ []) ++ (ok_freed (2 ∷ 1 ∷ []) ∷ [])
+-- when object 1 dies, each of the seventeen has its turn
+abbrev pub death : Lines
+death =
+    (drop 1, turn 19)
+    ∷ map next (18 ∷ 17 ∷ 16 ∷ 15 ∷ 14 ∷ 13 ∷ 12 ∷ 11 ∷ 10 ∷ 9 ∷ 8 ∷ 7 ∷ 6 ∷ 5 ∷ 4 ∷ 3 ∷ [])
+    ++ ((hand_back 1, ok_freed (2 ∷ 1 ∷ [])) ∷ [])
 
--- the object dies, and in the first turn the handles of the two oldest references are dropped
-abbrev pub hasty_death : List Entry
-hasty_death = drop 1 ∷ drop 3 ∷ drop 4 ∷ replicate 16 (hand_back 1)
-
-abbrev pub hasty_death_answers : List Answer
-hasty_death_answers = turn 19 ∷ ok_freed (3 ∷ []) ∷ ok 0 ∷ map turn (18 ∷ 17 ∷ 16 ∷ 15 ∷ 14 ∷ 13 ∷ 12 ∷ 11 ∷ 10 ∷ 9 ∷ 8 ∷ 7 ∷ 6 ∷ 5 ∷ 4 ∷ []) ++ (ok_freed (2 ∷ 4 ∷ 1 ∷ []) ∷ [])
+-- in the first turn the handles of 3 and 4 are dropped: 3 is freed, and has no turn; the round holds 4 already, which has its
+-- turn and is freed behind it
+abbrev pub hasty_death : Lines
+hasty_death =
+    (drop 1, turn 19)
+    ∷ (drop 3, ok_freed (3 ∷ []))
+    ∷ (drop 4, ok 0)
+    ∷ map next (18 ∷ 17 ∷ 16 ∷ 15 ∷ 14 ∷ 13 ∷ 12 ∷ 11 ∷ 10 ∷ 9 ∷ 8 ∷ 7 ∷ 6 ∷ 5 ∷ 4 ∷ [])
+    ++ ((hand_back 1, ok_freed (2 ∷ 4 ∷ 1 ∷ [])) ∷ [])

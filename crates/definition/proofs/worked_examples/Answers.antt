@@ -1,7 +1,7 @@
 use Rattle.std.proofs.Common.{refl}
 use Rattle.definition.specs.Death.{give_up, advance, frees, work, settle, freed_in, settled, freed}
 use Rattle.definition.specs.Calls.{refusal, outcome, call, answer}
-use Rattle.definition.proofs.ManyHolds.{two_holds_at}
+use Rattle.definition.proofs.ManyHolds.{filled_at}
 use Rattle.definition.proofs.worked_examples.Goals as goal
 
 pub returns-clause-as_docs_say : goal.returns-clause-as_docs_say
@@ -29,4 +29,4 @@ unfolding give_up advance frees work settle freed_in settled freed refusal outco
 returns-clause-oldest_has_no_turn c = refl
 
 pub returns-clause-count_full : goal.returns-clause-count_full
-returns-clause-count_full c = two_holds_at
+returns-clause-count_full c = filled_at
