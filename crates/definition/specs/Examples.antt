@@ -117,15 +117,20 @@ slots =
     ∷ (store 1 1 0, ok 2)
     ∷ []
 
--- ---- two references of class 5 differ; two of class 1 are one, as neither has a callback
+-- ---- references of class 1 without a callback are one; with a callback they differ, and so do references of class 5
 
 abbrev pub twice : Lines
 twice =
     (make 2, ok 1)
-    ∷ (weaken 5 1 0, ok 2)
+    ∷ (weaken 1 1 0, ok 2)
+    ∷ (weaken 1 1 0, ok 2)
     ∷ (weaken 5 1 0, ok 3)
-    ∷ (weaken 1 1 0, ok 4)
-    ∷ (weaken 1 1 0, ok 4)
+    ∷ (weaken 5 1 0, ok 4)
+    ∷ (make 2, ok 5)
+    ∷ (hold 5, ok 0)
+    ∷ (weaken 1 1 5, ok 6)
+    ∷ (weaken 1 1 5, ok 7)
+    ∷ (weaken 1 1 0, ok 2)
     ∷ []
 
 -- ---- an object of class 4 runs the del of class 3, its ancestor
