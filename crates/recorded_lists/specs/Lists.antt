@@ -1,7 +1,8 @@
 -- Lists of calls, and what rustpython-vm 0.4.0 answered to them, recorded with a runner built around its object core.
 -- Before each list stands its text, and before its answers the replies as they were printed; the letters are those of
 -- a call list, and further ones for the other calls (s store, x swap, y set dictionary, l list, e set del, v weaken with a
--- dictionary, n and c make with a note or a cell) and for questions (q strong count, k weak count, t trace).
+-- dictionary, n and c make with a note or a cell, where the value of a note comes last and means nothing here) and for
+-- questions (q strong count, k weak count, t trace).
 use Rattle.std.specs.Prelude.{ℕ, true, false, List, [], ◌∷◌, Some, None, Ok, Err, Option}
 use Rattle.refusal.specs.declared.Fault.{Fault}
 use Rattle.refusal.specs.declared.Refusal.{Refusal}
