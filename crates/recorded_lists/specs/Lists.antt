@@ -318,7 +318,7 @@ references_dropped_in_a_round_answers =
     ok 0 ∷ ok 1 ∷ ok 2 ∷ ok 0 ∷ ok 3 ∷ ok 0 ∷ ok 4 ∷ ok 0 ∷ ok 5 ∷ ok_turn [] 1 (Callback 2 5) ∷ ok 0 ∷ ok 0 ∷ ok 0
     ∷ ok_turn (5 ∷ []) 1 (Callback 2 4) ∷ ok_turn (4 ∷ []) 1 (Callback 2 3) ∷ ok_frees (3 ∷ 1 ∷ []) ∷ []
 
--- ---- three rounds
+-- ---- rounds of sixteen
 
 -- A round holds sixteen references at most, and each asks anew which are still kept:
 -- a 1, m 2 0, m 2 0, h 2, w 5 1 2, h 2, w 5 1 2, h 2, w 5 1 2, h 2, w 5 1 2, h 2, w 5 1 2, h 2, w 5 1 2, h 2,
@@ -328,8 +328,8 @@ references_dropped_in_a_round_answers =
 -- w 5 1 2, h 2, w 5 1 2, h 2, w 5 1 2, d 1, d 19, d 3, d 20, h 5, i 4, d 4, b 1, b 1, b 1, b 1, b 1, b 1, b 1, b 1,
 -- b 1, b 1, b 1, b 1, b 1, b 1, b 1, b 1, b 1, b 1, b 1, b 1, b 1, b 1, b 1, b 1, b 1, b 1, b 1, b 1, b 1, b 1, b 1,
 -- b 1, b 1, b 1, h 4, u 4
-abbrev pub three_rounds : List Entry
-three_rounds =
+abbrev pub rounds_of_sixteen : List Entry
+rounds_of_sixteen =
     Calls (Attend true) ∷ Calls (Make 2 0 (a_row [])) ∷ Calls (Make 2 0 (a_row [])) ∷ Calls (Hold 2)
     ∷ Calls (Weaken 5 1 2 0) ∷ Calls (Hold 2) ∷ Calls (Weaken 5 1 2 0) ∷ Calls (Hold 2) ∷ Calls (Weaken 5 1 2 0)
     ∷ Calls (Hold 2) ∷ Calls (Weaken 5 1 2 0) ∷ Calls (Hold 2) ∷ Calls (Weaken 5 1 2 0) ∷ Calls (Hold 2)
@@ -367,8 +367,8 @@ three_rounds =
 -- ok 0 t 1 call 2 16, ok 0 t 1 call 2 15, ok 0 t 1 call 2 14, ok 0 t 1 call 2 13, ok 0 t 1 call 2 12,
 -- ok 0 t 1 call 2 11, ok 0 t 1 call 2 10, ok 0 t 1 call 2 9, ok 0 t 1 call 2 8, ok 0 t 1 call 2 7,
 -- ok 0 t 1 call 2 6, ok 0 t 1 call 2 5, ok 0 t 1 call 2 4, ok 0 f 1, no 15 1, no 15 1, no 15 1, ok 0, ok 0
-abbrev pub three_rounds_answers : List Answer
-three_rounds_answers =
+abbrev pub rounds_of_sixteen_answers : List Answer
+rounds_of_sixteen_answers =
     ok 0 ∷ ok 1 ∷ ok 2 ∷ ok 0 ∷ ok 3 ∷ ok 0 ∷ ok 4 ∷ ok 0 ∷ ok 5 ∷ ok 0 ∷ ok 6 ∷ ok 0 ∷ ok 7 ∷ ok 0 ∷ ok 8 ∷ ok 0
     ∷ ok 9 ∷ ok 0 ∷ ok 10 ∷ ok 0 ∷ ok 11 ∷ ok 0 ∷ ok 12 ∷ ok 0 ∷ ok 13 ∷ ok 0 ∷ ok 14 ∷ ok 0 ∷ ok 15 ∷ ok 0 ∷ ok 16
     ∷ ok 0 ∷ ok 17 ∷ ok 0 ∷ ok 18 ∷ ok 0 ∷ ok 19 ∷ ok 0 ∷ ok 20 ∷ ok 0 ∷ ok 21 ∷ ok 0 ∷ ok 22 ∷ ok 0 ∷ ok 23 ∷ ok 0

@@ -4,7 +4,7 @@
 ghost use Rattle.std.specs.Prelude.{◌≡◌, true, ◌&&◌};
 ghost use Rattle.definition.specs.Opening.{can_open, opening, opening_refusal};
 ghost use Rattle.definition.specs.Runs.{answers};
-ghost use Rattle.recorded_lists.specs.Lists.{cached_reference, cached_reference_answers, cached_reference_dying, cached_reference_dying_answers, callback_goes_last, callback_goes_last_answers, callback_is_the_referent, callback_is_the_referent_answers, class_1_cached_class_5_not, class_1_cached_class_5_not_answers, deaths_in_deaths, deaths_in_deaths_answers, del_of_an_ancestor, del_of_an_ancestor_answers, del_set_and_taken, del_set_and_taken_answers, dictionaries, dictionaries_answers, dying_cannot_be_named, dying_cannot_be_named_answers, handles_counted_from_the_left, handles_counted_from_the_left_answers, kept_in_a_slot, kept_in_a_slot_answers, marks, marks_answers, no_host, no_host_answers, no_room_while_dying, no_room_while_dying_answers, no_such_place, no_such_place_answers, order_of_frees, order_of_frees_answers, payloads, payloads_answers, references_dropped_in_a_round, references_dropped_in_a_round_answers, three_rounds, three_rounds_answers, turns_in_turns, turns_in_turns_answers, worked_example, worked_example_answers, too_many_places_refusal};
+ghost use Rattle.recorded_lists.specs.Lists.{cached_reference, cached_reference_answers, cached_reference_dying, cached_reference_dying_answers, callback_goes_last, callback_goes_last_answers, callback_is_the_referent, callback_is_the_referent_answers, class_1_cached_class_5_not, class_1_cached_class_5_not_answers, deaths_in_deaths, deaths_in_deaths_answers, del_of_an_ancestor, del_of_an_ancestor_answers, del_set_and_taken, del_set_and_taken_answers, dictionaries, dictionaries_answers, dying_cannot_be_named, dying_cannot_be_named_answers, handles_counted_from_the_left, handles_counted_from_the_left_answers, kept_in_a_slot, kept_in_a_slot_answers, marks, marks_answers, no_host, no_host_answers, no_room_while_dying, no_room_while_dying_answers, no_such_place, no_such_place_answers, order_of_frees, order_of_frees_answers, payloads, payloads_answers, references_dropped_in_a_round, references_dropped_in_a_round_answers, rounds_of_sixteen, rounds_of_sixteen_answers, turns_in_turns, turns_in_turns_answers, worked_example, worked_example_answers, too_many_places_refusal};
 ghost use Rattle.recorded_lists.specs.Rows.{runner_rows, wide_rows};
 
 /// Each list, on a core opened with these places, first birth and class rows: the definition answers line by line what
@@ -25,7 +25,7 @@ pub fn the_definition_answers_as_recorded()
     ensures callback_goes_last { answers callback_goes_last (opening 256 1 runner_rows) ≡ callback_goes_last_answers }
     ensures callback_is_the_referent { answers callback_is_the_referent (opening 256 1 runner_rows) ≡ callback_is_the_referent_answers }
     ensures references_dropped_in_a_round { answers references_dropped_in_a_round (opening 256 1 runner_rows) ≡ references_dropped_in_a_round_answers }
-    ensures three_rounds { answers three_rounds (opening 256 1 runner_rows) ≡ three_rounds_answers }
+    ensures rounds_of_sixteen { answers rounds_of_sixteen (opening 256 1 runner_rows) ≡ rounds_of_sixteen_answers }
     ensures no_host { answers no_host (opening 256 1 runner_rows) ≡ no_host_answers }
     ensures marks { answers marks (opening 256 1 runner_rows) ≡ marks_answers }
     ensures dying_cannot_be_named { answers dying_cannot_be_named (opening 256 1 runner_rows) ≡ dying_cannot_be_named_answers }
