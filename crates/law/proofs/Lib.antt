@@ -52,4 +52,5 @@ pub mod Lists
 pub mod Linked
 pub mod Ways
 pub mod Served
+pub mod Chains
 pub mod Whole

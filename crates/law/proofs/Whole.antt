@@ -7,6 +7,7 @@ use Rattle.law.specs.Run.{Step, run, history}
 use Rattle.law.specs.Events.{Every}
 use Rattle.law.specs.Law.{Lives, HoldsOfEveryRun}
 use Rattle.law.proofs.Moments.{opening_between, end_between}
+use Rattle.law.proofs.Chains.{chained}
 use Rattle.law.proofs.Counted.{every_counted}
 use Rattle.law.proofs.Placed.{every_named}
 use Rattle.law.proofs.Kept.{tallied, nothing_lost_or_kept}
@@ -52,5 +53,6 @@ law capacity first classes e cs =
       counted = every_counted cs _ start;
       places = every_named cs _ start;
       tallies = tallied capacity first classes e cs;
+      moments = chained cs _ start;
       finished = end.rests;
     }

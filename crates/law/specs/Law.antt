@@ -7,7 +7,7 @@ use Rattle.definition.specs.State.{Phase, DelOpen, State, is_unfreed, is_live, i
 use Rattle.definition.specs.Death.{found, rests}
 use Rattle.definition.specs.Calls.{Call, Upgrade, HandBack, Del, Callback, Asked, Turn, Reply, refusal}
 use Rattle.definition.specs.Opening.{can_open, opening}
-use Rattle.law.specs.Run.{What, Accepted, Step, Exchange, run, end, history}
+use Rattle.law.specs.Run.{What, Accepted, Step, Exchange, run, end, history, Chain}
 use Rattle.law.specs.Tallies.{makes, frees, handles_given, handles_taken, interns, turns_shown, hand_backs}
 use Rattle.law.specs.Events.{Live, Cleared, Dying, NoTurnOf, Dies, Kept, Clears, Freed, Takes, Loses, Drained, OpensDel, OpensCall, Once, Never, Every, Newer, Watched}
 use Rattle.law.specs.Places.{Place, names, Named}
@@ -166,6 +166,7 @@ pub record Law (cs : List Call) (start : State) : Type 0 where
   pub counted : Every (λ st h. Counted st.after) (history (run cs start))
   pub places : Every (λ st h. Named st.what st.before st.after) (history (run cs start))
   pub tallies : Tallied (run cs start) (end cs start)
+  pub moments : Chain (history (run cs start)) start (end cs start)
   -- no work is left: nothing is dying, or the newest death waits for a hand back
   pub finished : rests (end cs start) ≡ true
 

@@ -1,5 +1,5 @@
 -- A run: the calls made on a newly opened core, their answers, and the moments between, small steps included.
-use Rattle.std.specs.Prelude.{ℕ, zero, suc, cond, List, [], ◌∷◌, ◌++◌, Some, None, Option, Result}
+use Rattle.std.specs.Prelude.{◌≡◌, ℕ, zero, suc, cond, List, [], ◌∷◌, ◌++◌, Some, None, Option, Result}
 use Rattle.refusal.specs.declared.Fault.{Fault}
 use Rattle.definition.specs.State.{State}
 use Rattle.definition.specs.Death.{advance, rests, work}
@@ -55,3 +55,8 @@ end (c ∷ cs) s = end cs (call c s)
 abbrev pub history : List Exchange → List Step
 history [] = []
 history (e ∷ es) = e.steps ++ history es
+
+-- each step begins where the one before it ended, from s to t
+abbrev pub Chain : List Step → State → State → Type 0
+Chain [] s t = t ≡ s
+Chain (st ∷ h) s t = (t ≡ st.after) × Chain h s st.before

@@ -20,7 +20,7 @@ pub fn objects_live_and_die_in_order()
     ensures { OfEveryRun (λ es s. Every Lives (history es)) }
 {}
 
-/// What calls and replies tell of a run says what its state is: which turns are open, which handles the host has, what is interned,
+/// What calls and replies tell of a run says what its state is: how many turns are open, which handles the host has, what is interned,
 /// and what is unfreed.
 pub fn tallies_tell_the_state()
     ensures { OfEveryRun Tallied }
