@@ -21,6 +21,7 @@ pub mod Counted
 pub mod Placing
 pub mod Puts
 pub mod Placed
+pub mod Settings
 pub mod Passing
 pub mod HandlesTally
 pub mod BirthsTally

@@ -10,6 +10,7 @@ use Rattle.law.proofs.Moments.{opening_between, end_between}
 use Rattle.law.proofs.Chains.{chained}
 use Rattle.law.proofs.Counted.{every_counted}
 use Rattle.law.proofs.Placed.{every_named}
+use Rattle.law.proofs.Settings.{every_set}
 use Rattle.law.proofs.Kept.{tallied, nothing_lost_or_kept}
 use Rattle.law.proofs.Ending.{hand_backs_end_at}
 use Rattle.law.proofs.Telling.{replies}
@@ -52,6 +53,7 @@ law capacity first classes e cs =
       hand_backs_end = hand_backs_end_at _ end.always.inv end.rests;
       counted = every_counted cs _ start;
       places = every_named cs _ start;
+      settings = every_set cs _ start;
       tallies = tallied capacity first classes e cs;
       moments = chained cs _ start;
       finished = end.rests;

@@ -11,6 +11,7 @@ use Rattle.law.specs.Run.{What, Accepted, Step, Exchange, run, end, history, Cha
 use Rattle.law.specs.Tallies.{makes, frees, handles_given, handles_taken, interns, turns_shown, hand_backs}
 use Rattle.law.specs.Events.{Live, Cleared, Dying, NoTurnOf, Dies, Kept, Clears, Freed, Takes, Loses, Drained, OpensDel, OpensCall, Once, Never, Every, Newer, Watched}
 use Rattle.law.specs.Places.{Place, names, Named}
+use Rattle.law.specs.Settings.{Set}
 
 -- ==== nothing lost, nothing kept
 
@@ -165,6 +166,8 @@ pub record Law (cs : List Call) (start : State) : Type 0 where
   pub hand_backs_end : HandBacksEnd (end cs start)
   pub counted : Every (λ st h. Counted st.after) (history (run cs start))
   pub places : Every (λ st h. Named st.what st.before st.after) (history (run cs start))
+  -- a host attends, and rows and objects are, as calls said
+  pub settings : Every (λ st h. Set st.what st.before st.after) (history (run cs start))
   pub tallies : Tallied (run cs start) (end cs start)
   pub moments : Chain (history (run cs start)) start (end cs start)
   -- no work is left: nothing is dying, or the newest death waits for a hand back

@@ -7,6 +7,7 @@ ghost use Rattle.law.specs.Events.{Every};
 ghost use Rattle.law.specs.Law.{AllTell, Counted, HandBacksEnd, HoldsOfEveryRun, Lives, NothingLostOrKept, OfEveryRun, Tallied};
 ghost use Rattle.law.specs.Places.{Named};
 ghost use Rattle.law.specs.Run.{history};
+ghost use Rattle.law.specs.Settings.{Set};
 
 /// Nothing is lost and nothing is kept by mistake. While no turn is open, an object is made and not freed exactly if something
 /// holds it: a handle of the host's, its mark, or a place of an unfreed object. What something holds is never freed.
@@ -52,6 +53,12 @@ pub fn replies_tell_what_happened()
 /// A place of an object names what an accepted call last put there, until a death empties it.
 pub fn places_name_what_was_put_there()
     ensures { OfEveryRun (λ es s. Every (λ step before. Named step.what step.before step.after) (history es)) }
+{}
+
+/// A host attends, and the class rows are, as the last accepted call that set them said; an object is, until it is freed, of the
+/// class, kind, slots and referent that the call that made it said.
+pub fn settings_are_what_calls_set()
+    ensures { OfEveryRun (λ es s. Every (λ step before. Set step.what step.before step.after) (history es)) }
 {}
 
 /// The whole law, as one statement.
