@@ -1,16 +1,16 @@
 -- Over every run what the core is set to is what calls set, and what an object is made as stays.
-use Rattle.std.proofs.Common.{◌≡◌, ℕ, suc, ◌-◌, true, false, not, ◌&&◌, eqb, ◌⊎◌, List, [], ◌∷◌, get_or, set, refl, inl, inr, arith}
+use Rattle.std.proofs.Common.{◌≡◌, ℕ, zero, suc, ◌-◌, true, false, not, ◌&&◌, eqb, ◌⊎◌, List, [], ◌∷◌, get_or, set, refl, ◌∙◌, inl, inr, arith}
 use Rattle.std.proofs.lemmas.Bool.{ne_eqb, cond_both}
 use Rattle.classes.specs.Rows.{class_at}
 use Rattle.definition.specs.State.{Phase, Absent, Resting, DelOpen, Taking, Draining, Calling, Freeing, Leaving, Shape, State, is_unfreed, is_live}
 use Rattle.definition.specs.Changes.{with_phase, with_places, with_callback, with_giving, with_turns, born}
-use Rattle.definition.specs.Death.{loose, less, spent, unlisted, leaving, give_up, advance}
-use Rattle.definition.specs.Calls.{Call, Make, Hold, Drop, Store, Swap, SetDictionary, Weaken, Upgrade, ListWeak, Intern, Attend, SetDel, HandBack, hold, hold_all, gained, content, slot_place, edge_place, dictionary_of, handed, handed_back, del_ends, newest_back, slot_count, new_places, new_reference, reused, answering, standing, Answers, replied, outcome}
+use Rattle.definition.specs.Death.{loose, less, spent, unlisted, leaving, give_up, advance, settle, settled, work}
+use Rattle.definition.specs.Calls.{Call, Make, Hold, Drop, Store, Swap, SetDictionary, Weaken, Upgrade, ListWeak, Intern, Attend, SetDel, HandBack, hold, hold_all, gained, content, slot_place, edge_place, dictionary_of, handed, handed_back, del_ends, newest_back, slot_count, new_places, new_reference, reused, answering, standing, Outcome, Answers, DeathsFollow, replied, outcome, after}
 use Rattle.definition.proofs.Sums.{same, point}
 use Rattle.definition.proofs.Advance.{give_up_cases, advance_cases}
 use Rattle.law.specs.Run.{Accepted, Small, own_change, run, history}
 use Rattle.law.specs.Events.{Every}
-use Rattle.law.specs.Settings.{made_as, Set}
+use Rattle.law.specs.Settings.{attends_by, made_as, Set}
 use Rattle.law.proofs.Invariant.{Inv}
 use Rattle.law.proofs.Makes.{reused_live}
 use Rattle.law.proofs.Histories.{every_history}
@@ -134,3 +134,19 @@ every_set = every_history (λ st. Set st.what st.before st.after) (record {
   refuses = λ c fault s b. (refl, refl, refl, λ p. refl);
   steps = λ s a. small_set s;
 })
+
+-- ---- the deaths that follow a call set no host
+
+settle_attends : (n : ℕ) (s : State) → (settle n s).attends ≡ s.attends
+unfolding settle
+settle_attends zero s = refl
+settle_attends (suc n) s = settle_attends n (advance s) ∙ (small_set s).1
+
+after_attends : (out : Outcome) → (after out).attends ≡ (own_change out).attends
+unfolding settled
+after_attends (Answers number listed s) = refl
+after_attends (DeathsFollow left s) = settle_attends (work s) s
+
+-- so a host attends after an accepted call as the call says
+pub attends_told : (c : Call) (s : State) → Inv s [] → (after (outcome c s)).attends ≡ attends_by c s.attends
+attends_told c s i = after_attends (outcome c s) ∙ (call_set c s i).1

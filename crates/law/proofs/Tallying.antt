@@ -1,5 +1,5 @@
 -- What the tallies of a run say of the state that it has come to.
-use Rattle.std.proofs.Common.{◌≡◌, ℕ, ◌<◌, ◌≤◌, true, List, [], ◌∷◌, ◌++◌, Some, None, Ok, Err, Option, refl, ap, subst, arith, append_assoc, append-nil}
+use Rattle.std.proofs.Common.{◌≡◌, ℕ, ◌<◌, ◌≤◌, true, List, [], ◌∷◌, ◌++◌, Some, None, Ok, Err, Option, refl, ap, ◌∙◌, subst, arith, append_assoc, append-nil}
 use Rattle.refusal.specs.declared.Fault.{Fault}
 use Rattle.classes.specs.Rows.{Class}
 use Rattle.definition.specs.Base.{bit}
@@ -8,13 +8,15 @@ use Rattle.definition.specs.Death.{rests}
 use Rattle.definition.specs.Calls.{Call, refusal, outcome, after, state_after, replied, answered, answer, call}
 use Rattle.definition.specs.Opening.{can_open, opening}
 use Rattle.law.specs.Run.{Step, Exchange, own_change, steps_of, exchange, run, end}
-use Rattle.law.specs.Tallies.{makes, tally}
+use Rattle.law.specs.Settings.{attends_by}
+use Rattle.law.specs.Tallies.{makes, tally, attending}
 use Rattle.law.specs.Law.{NothingLostOrKept, Tallied}
 use Rattle.law.proofs.Invariant.{Inv}
 use Rattle.law.proofs.Granted.{Granted, granted}
 use Rattle.law.proofs.HandlesTally.{handles_told}
 use Rattle.law.proofs.BirthsTally.{Before, marks_told, counts_told}
 use Rattle.law.proofs.TurnsTally.{turns_told}
+use Rattle.law.proofs.Settings.{attends_told}
 use Rattle.law.proofs.NothingLost.{nothing_lost_or_kept_at}
 
 -- and births that are still to come have not been made
@@ -30,7 +32,7 @@ told_before es s t = record { fresh = t.fresh; made = λ y py u. omega (arith, t
 accepted_told :
     (c : Call) (s : State) (es : List Exchange) (steps : List Step) → Inv s [] → Granted c s → Inv (own_change (outcome c s)) [] → Told es s
     → Told (record { call = c; answer = Ok (replied (outcome c s)); steps = steps } ∷ es) (after (outcome c s))
-unfolding tally
+unfolding tally attending
 accepted_told c s es steps i g j t =
     let n = counts_told c s (λ y. makes y es) i (told_before es s t) g j in
     record {
@@ -41,19 +43,20 @@ accepted_told c s es steps i g j t =
             marks = λ o. omega (arith, t.tallied.marks o, marks_told c s g j o);
             unfreed = λ o po. omega (arith, t.tallied.unfreed o po, n.unfreed o po);
             once = n.once;
+            attends = attends_told c s i ∙ ap (attends_by c) t.tallied.attends;
           };
       fresh = n.fresh;
     }
 
 -- a refused call is not counted, and changes nothing
 refused_told : (c : Call) (s : State) (es : List Exchange) (steps : List Step) (fault : Fault) → Told es s → Told (record { call = c; answer = Err fault; steps = steps } ∷ es) s
-unfolding tally
-refused_told c s es steps fault t = record { tallied = record { turns = t.tallied.turns; handles = t.tallied.handles; marks = t.tallied.marks; unfreed = t.tallied.unfreed; once = t.tallied.once }; fresh = t.fresh }
+unfolding tally attending
+refused_told c s es steps fault t = record { tallied = record { turns = t.tallied.turns; handles = t.tallied.handles; marks = t.tallied.marks; unfreed = t.tallied.unfreed; once = t.tallied.once; attends = t.tallied.attends }; fresh = t.fresh }
 
 -- nothing is told of a core that has just been opened
 opening_told : (capacity first : ℕ) (classes : List Class) → Told [] (opening capacity first classes)
-unfolding tally
-opening_told capacity first classes = record { tallied = record { turns = refl; handles = λ o po. refl; marks = λ o. refl; unfreed = λ o po. refl; once = λ o po. omega arith }; fresh = λ y py l. refl }
+unfolding tally attending
+opening_told capacity first classes = record { tallied = record { turns = refl; handles = λ o po. refl; marks = λ o. refl; unfreed = λ o po. refl; once = λ o po. omega arith; attends = refl }; fresh = λ y py l. refl }
 
 -- What is known of every state that a run comes to: it begins so, each call keeps it, and with it come the invariant, which
 -- each call's own change keeps, and that no work is left

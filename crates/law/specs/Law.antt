@@ -8,7 +8,7 @@ use Rattle.definition.specs.Death.{found, rests}
 use Rattle.definition.specs.Calls.{Call, Upgrade, HandBack, Del, Callback, Asked, Turn, Reply, refusal}
 use Rattle.definition.specs.Opening.{can_open, opening}
 use Rattle.law.specs.Run.{What, Accepted, Step, Exchange, run, end, history, Chain}
-use Rattle.law.specs.Tallies.{makes, frees, handles_given, handles_taken, interns, turns_shown, hand_backs}
+use Rattle.law.specs.Tallies.{makes, frees, handles_given, handles_taken, interns, turns_shown, hand_backs, attending}
 use Rattle.law.specs.Events.{Live, Cleared, Dying, NoTurnOf, Dies, Kept, Clears, Freed, Takes, Loses, Drained, OpensDel, OpensCall, Once, Never, Every, Newer, Watched}
 use Rattle.law.specs.Places.{Place, names, Named}
 use Rattle.law.specs.Settings.{Set}
@@ -156,6 +156,8 @@ pub record Tallied (es : List Exchange) (s : State) : Type 0 where
   pub marks : (o : ℕ) → bit (s.interned o) ≡ interns o es
   pub unfreed : (o : ℕ) → 0 < o → frees o es + bit (is_unfreed (s.phase o)) ≡ makes o es
   pub once : (o : ℕ) → 0 < o → makes o es ≤ 1
+  -- a host attends exactly if the last accepted attend said so
+  pub attends : s.attends ≡ attending es
 
 -- ==== the whole
 

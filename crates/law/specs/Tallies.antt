@@ -1,9 +1,10 @@
 -- What calls and their answers alone tell, counted over a run.
-use Rattle.std.specs.Prelude.{ℕ, ◌+◌, ◌&&◌, List, [], ◌∷◌, Some, None, Ok, Err, Option, Result, ◌==◌}
+use Rattle.std.specs.Prelude.{ℕ, ◌+◌, Bool, false, ◌&&◌, List, [], ◌∷◌, Some, None, Ok, Err, Option, Result, ◌==◌}
 use Rattle.refusal.specs.declared.Fault.{Fault}
 use Rattle.definition.specs.Base.{bit, count}
 use Rattle.definition.specs.Calls.{Call, Make, Hold, Drop, Store, Swap, SetDictionary, Weaken, Upgrade, ListWeak, Intern, Attend, SetDel, HandBack, Turn, Reply}
 use Rattle.law.specs.Run.{Exchange}
+use Rattle.law.specs.Settings.{attends_by}
 
 -- ---- what an accepted call does to handles: of which objects it gives one, and of which it takes one over
 
@@ -116,3 +117,15 @@ turns_shown es = tally (λ before c r. shown_by r.turn) es
 
 abbrev pub hand_backs : List Exchange → ℕ
 hand_backs es = tally (λ before c r. handed_back_by (kind_of c)) es
+
+-- ---- the host
+
+-- whether a host attends after a call, where one attended or not before; a refused call changes nothing
+abbrev pub attending_after : Call → Result Reply Fault → Bool → Bool
+attending_after c (Ok r) before = attends_by c before
+attending_after c (Err fault) before = before
+
+-- a host attends if the last accepted attend said so; none does before the first
+unfoldable pub attending : List Exchange → Bool
+attending [] = false
+attending (e ∷ es) = attending_after e.call e.answer (attending es)

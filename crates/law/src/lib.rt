@@ -21,8 +21,8 @@ pub fn objects_live_and_die_in_order()
     ensures { OfEveryRun (λ es s. Every Lives (history es)) }
 {}
 
-/// What calls and replies tell of a run says what its state is: how many turns are open, which handles the host has, what is interned,
-/// and what is unfreed.
+/// What calls and replies tell of a run says what its state is: how many turns are open, which handles the host has, what is
+/// interned, what is unfreed, and whether a host attends.
 pub fn tallies_tell_the_state()
     ensures { OfEveryRun Tallied }
 {}
