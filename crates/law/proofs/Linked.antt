@@ -5,7 +5,7 @@ use Rattle.definition.specs.Base.{count}
 use Rattle.definition.specs.State.{Phase, Absent, Resting, DelOpen, Taking, Draining, Calling, Freeing, Leaving, State, is_unfreed}
 use Rattle.definition.proofs.Sums.{count_here, count_length}
 use Rattle.law.specs.Run.{Step}
-use Rattle.law.specs.Events.{Live, Cleared, NoTurnOf, Freed, Takes, Loses, Drained, OpensCall, Once, Never, Watched}
+use Rattle.law.specs.Events.{Live, Cleared, Emptying, NoTurnOf, Freed, Takes, Loses, Drained, OpensCall, Once, Never, Watched}
 use Rattle.law.proofs.Invariant.{Good, Inv}
 use Rattle.law.proofs.Stages.{stage, live_stage, stage_live, stage_cleared, unfreed_stage}
 use Rattle.law.proofs.StepKinds.{Moment}
@@ -46,17 +46,6 @@ watcher_born s i w p = by (cases_lt w s.next)
     by (inl h) = h
     by (inr h) = absurd (omega (arith, unborn_bare s i w h))
 
--- one that is freed next holds nothing
-leaving_round : {p : Phase} {s m h q l w e r g k : ℕ} → Good p s m h q l w e r g k → stage p ≡ 4 → r ≡ 0
-leaving_round {p = Absent} i z = omega (arith, i)
-leaving_round {p = Resting} i z = omega (arith, i)
-leaving_round {p = (DelOpen c)} i z = omega (arith, i)
-leaving_round {p = Taking} i z = absurd (omega arith)
-leaving_round {p = Draining} i z = absurd (omega arith)
-leaving_round {p = (Calling c x)} i z = absurd (omega arith)
-leaving_round {p = (Freeing n)} i z = omega (arith, i)
-leaving_round {p = Leaving} i z = omega (arith, i)
-
 -- what is not unfreed is nobody
 freed_stage : (p : Phase) → is_unfreed p ≡ false → stage p ≡ 5
 freed_stage Absent e = refl
@@ -67,6 +56,33 @@ freed_stage Draining e = let z : ◌≡◌ {A = ℕ} 0 1 = cc in absurd (omega a
 freed_stage (Calling c w) e = let z : ◌≡◌ {A = ℕ} 0 1 = cc in absurd (omega arith)
 freed_stage (Freeing k) e = let z : ◌≡◌ {A = ℕ} 0 1 = cc in absurd (omega arith)
 freed_stage Leaving e = let z : ◌≡◌ {A = ℕ} 0 1 = cc in absurd (omega arith)
+
+-- what has all its places emptied is freed next
+last_leaving : (p : Phase) → stage p ≡ 4 → p ≡ Leaving
+last_leaving Absent e = absurd (omega arith)
+last_leaving Resting e = absurd (omega arith)
+last_leaving (DelOpen c) e = absurd (omega arith)
+last_leaving Taking e = absurd (omega arith)
+last_leaving Draining e = absurd (omega arith)
+last_leaving (Calling c w) e = absurd (omega arith)
+last_leaving (Freeing k) e = absurd (omega arith)
+last_leaving Leaving e = refl
+
+-- what has its places emptied is past its rounds
+emptying_stage : (s : State) (o : ℕ) → Emptying s o → (3 ≤ stage (s.phase o)) × (stage (s.phase o) ≤ 4)
+emptying_stage s o (inl (k, e)) = (rw e (omega arith), rw e (omega arith))
+emptying_stage s o (inr e) = (rw e (omega arith), rw e (omega arith))
+
+-- and has none
+no_round : {p : Phase} {s m h q l w e r g k : ℕ} → Good p s m h q l w e r g k → 3 ≤ stage p → stage p ≤ 4 → r ≡ 0
+no_round {p = Absent} i z y = absurd (omega arith)
+no_round {p = Resting} i z y = absurd (omega arith)
+no_round {p = (DelOpen c)} i z y = absurd (omega arith)
+no_round {p = Taking} i z y = absurd (omega arith)
+no_round {p = Draining} i z y = absurd (omega arith)
+no_round {p = (Calling c x)} i z y = absurd (omega arith)
+no_round {p = (Freeing n)} i z y = omega (arith, i)
+no_round {p = Leaving} i z y = omega (arith, i)
 
 -- the same test, other claims
 match_map : (b : Bool) {P Q P' Q' : Type 0} → (P → P') → (Q → Q') → MatchBool b P Q → MatchBool b P' Q'
@@ -142,18 +158,26 @@ module _ (st : Step) (h : List Step) (mo : Moment st) (i : Inv st.before []) (j 
         match_map s.attends (λ q. (rw sv.phase refl, q ∙ ap (λ x. Calling x w) e)) (λ q. rw q refl) sv.turn,
       )
 
-  -- When an object is freed, each watcher has lost its callback to this death, or is live no longer and no round took it
-  pub freed : (o : ℕ) → Freed st o → (w c : ℕ) → 0 < c → Watched h o w c → Once (λ e. Drained e o w c) h ⊎ (Never (λ e. Takes e o w) h × (Live s w → ⊥))
-  freed o f w c p wa = by (k.way o w c p wa (omega (arith, last)) (omega (arith, last)))
+  -- an object is freed only once its places are being emptied
+  pub frees : (o : ℕ) → Freed st o → Emptying s o
+  frees o f = inr (last_leaving (s.phase o) (omega (arith, moved.frees o (freed_stage (t.phase o) f.1), unfreed_stage (s.phase o) f.0)))
+
+  -- When its places are being emptied, each watcher has lost its callback to this death, or is live no longer and no round took it
+  pub rounds_over : (o w c : ℕ) → Emptying s o → 0 < c → Watched h o w c → Once (λ e. Drained e o w c) h ⊎ (Never (λ e. Takes e o w) h × (Live s w → ⊥))
+  rounds_over o w c f p wa = by (k.way o w c p wa (omega (arith, last)) (omega (arith, last)))
     where
-      last : stage (s.phase o) ≡ 4
-      last = omega (arith, moved.frees o (freed_stage (t.phase o) f.1), unfreed_stage (s.phase o) f.0)
+      last : (3 ≤ stage (s.phase o)) × (stage (s.phase o) ≤ 4)
+      last = emptying_stage s o f
 
       none : length (s.held o) ≡ 0
-      none = leaving_round (i.good o (stage_below s i o (omega (arith, last))).0) last
+      none = no_round (i.good o (stage_below s i o last.1).0) last.0 last.1
 
       by : Way s h o w c → Once (λ e. Drained e o w c) h ⊎ (Never (λ e. Takes e o w) h × (Live s w → ⊥))
       by (gone b) = inl b
       by (round n e) = absurd (omega (arith, none, count_length w (s.held o)))
-      by (waits n e q l) = absurd (omega (arith, k.lists.bare o w (omega (arith, last)) (omega (arith, last))))
+      by (waits n e q l) = absurd (omega (arith, k.lists.bare o w last.0 last.1))
       by (ended q n l) = inr (q, λ a. n (live_stage (s.phase w) a))
+
+  -- so it is when it is freed
+  pub freed : (o : ℕ) → Freed st o → (w c : ℕ) → 0 < c → Watched h o w c → Once (λ e. Drained e o w c) h ⊎ (Never (λ e. Takes e o w) h × (Live s w → ⊥))
+  freed o f w c = rounds_over o w c (frees o f)

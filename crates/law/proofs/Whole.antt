@@ -30,6 +30,7 @@ lives_of st h l s = record {
   drained = s.drained;
   call_opens = s.call_opens;
   freed = s.freed;
+  frees = s.frees;
   nested = l.nested;
 }
 

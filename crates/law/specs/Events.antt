@@ -1,7 +1,7 @@
 -- What happens between one moment and the next, told by what is so at each.
 use Rattle.std.specs.Prelude.{◌≡◌, ℕ, ◌<◌, true, false, ◌⊎◌, List, [], ◌∷◌}
 use Rattle.definition.specs.Base.{count}
-use Rattle.definition.specs.State.{DelOpen, Calling, State, is_unfreed, is_live, is_resting, is_open}
+use Rattle.definition.specs.State.{DelOpen, Calling, Freeing, Leaving, State, is_unfreed, is_live, is_resting, is_open}
 use Rattle.law.specs.Run.{Step}
 
 -- ---- at a moment
@@ -22,6 +22,10 @@ Resting s o = is_resting (s.phase o) ≡ true
 -- its death has started, and it is neither freed nor kept
 abbrev pub Dying : State → ℕ → Type 0
 Dying s o = (is_unfreed (s.phase o) ≡ true) × (is_resting (s.phase o) ≡ false)
+
+-- its places are being emptied, or all of them are
+abbrev pub Emptying : State → ℕ → Type 0
+Emptying s o = ((k : ℕ) × (s.phase o ≡ Freeing k)) ⊎ (s.phase o ≡ Leaving)
 
 abbrev pub NoTurnOf : State → ℕ → Type 0
 NoTurnOf s o = is_open (s.phase o) ≡ false

@@ -9,7 +9,7 @@ use Rattle.definition.specs.Calls.{Call, Upgrade, HandBack, Del, Callback, Asked
 use Rattle.definition.specs.Opening.{can_open, opening}
 use Rattle.law.specs.Run.{What, Accepted, Step, Exchange, run, end, history, Chain}
 use Rattle.law.specs.Tallies.{makes, frees, handles_given, handles_taken, interns, turns_shown, hand_backs, attending}
-use Rattle.law.specs.Events.{Live, Cleared, Dying, NoTurnOf, Dies, Kept, Clears, Freed, Takes, Loses, Drained, OpensDel, OpensCall, Once, Never, Every, Newer, Watched}
+use Rattle.law.specs.Events.{Live, Cleared, Dying, NoTurnOf, Dies, Kept, Clears, Freed, Takes, Loses, Drained, OpensDel, OpensCall, Once, Never, Every, Newer, Watched, Emptying}
 use Rattle.law.specs.Places.{Place, names, Named}
 use Rattle.law.specs.Settings.{Set}
 
@@ -66,6 +66,8 @@ pub record Lives (st : Step) (h : List Step) : Type 0 where
   -- When an object is freed, each reference that had a callback when clearing began has lost it to this death, or its own
   -- clearing has begun and no round took it
   pub freed : (o : ℕ) → Freed st o → (w c : ℕ) → 0 < c → Watched h o w c → Once (λ e. Drained e o w c) h ⊎ (Never (λ e. Takes e o w) h × (Live st.before w → ⊥))
+  -- an object is freed only by its own death, once its places are being emptied
+  pub frees : (o : ℕ) → Freed st o → Emptying st.before o
   -- deaths nest: until a newer death has ended, by a free or a keeping, an older one takes no step
   pub nested : (o p : ℕ) → (o ≢ p) → Dying st.before o → Dying st.before p → Newer h p o → Still st.before st.after o
 
