@@ -29,6 +29,7 @@ lives_of st h l s = record {
   loses = s.loses;
   drained = s.drained;
   call_opens = s.call_opens;
+  rounds_over = s.rounds_over;
   freed = s.freed;
   frees = s.frees;
   nested = l.nested;

@@ -63,6 +63,9 @@ pub record Lives (st : Step) (h : List Step) : Type 0 where
   pub drained : (o w c : ℕ) → Drained st o w c → Watched h o w c × ((v d : ℕ) → Once (λ e. Drained e o v d) h → w < v) × MatchBool st.before.attends (OpensCall st o c w) (NoTurnOf st.after o)
   -- and so opens every callback turn
   pub call_opens : (o c w : ℕ) → OpensCall st o c w → Drained st o w c
+  -- When an object's places are being emptied, each reference that had a callback when clearing began has lost it to this
+  -- death, or its own clearing had begun and no round took it
+  pub rounds_over : (o w c : ℕ) → Emptying st.before o → 0 < c → Watched h o w c → Once (λ e. Drained e o w c) h ⊎ (Never (λ e. Takes e o w) h × (Live st.before w → ⊥))
   -- When an object is freed, each reference that had a callback when clearing began has lost it to this death, or its own
   -- clearing has begun and no round took it
   pub freed : (o : ℕ) → Freed st o → (w c : ℕ) → 0 < c → Watched h o w c → Once (λ e. Drained e o w c) h ⊎ (Never (λ e. Takes e o w) h × (Live st.before w → ⊥))
