@@ -9,7 +9,7 @@ use Rattle.definition.proofs.Sums.{same, point}
 use Rattle.law.proofs.Invariant.{Falling}
 use Rattle.law.proofs.Steps.{falling_tail}
 use Rattle.law.proofs.Stages.{stage, phase_older, older_ages}
-use Rattle.law.proofs.Moved.{Serves, Turned, same_as, own, served, Unlisted, stays, over, Moved}
+use Rattle.law.proofs.Moved.{Serves, Turned, same_as, own, served, Unlisted, stays, over, Begins, Moved}
 use Rattle.law.proofs.Serves.{count_more, count_rest}
 
 -- ---- a callback is taken out
@@ -121,7 +121,7 @@ frees_moved s o below ph =
           (λ y ne c v e. inl (rw (ne_eqb y o ne) at e));
       listed = point (λ y. (v : ℕ) → 0 < count v (put s.weak o [] y) → (0 < count v (s.weak y)) ⊎ ((v ≡ s.next) × ((t.shape v).referent ≡ y) × (stage (s.phase y) ≡ 1) × (stage (t.phase v) ≡ 1))) o (λ v h. let z : 0 < 0 = rw (same o) at h in absurd (omega arith)) (λ y ne v h. inl (rw (ne_eqb y o ne) at h));
       unlisted = point (λ y. (v : ℕ) → 0 < count v (s.weak y) → Unlisted s t y v) o (λ v h. over (rw (same o) refl)) (λ y ne v h. stays (rw (ne_eqb y o ne) h));
-      held = point (λ y. (v : ℕ) → 0 < count v (put s.held o [] y) → (0 < count v (s.held y)) ⊎ (0 < count v (s.weak y))) o (λ v h. let z : 0 < 0 = rw (same o) at h in absurd (omega arith)) (λ y ne v h. inl (rw (ne_eqb y o ne) at h));
+      held = point (λ y. (v : ℕ) → 0 < count v (put s.held o [] y) → (0 < count v (s.held y)) ⊎ ((0 < count v (s.weak y)) × Begins s y)) o (λ v h. let z : 0 < 0 = rw (same o) at h in absurd (omega arith)) (λ y ne v h. inl (rw (ne_eqb y o ne) at h));
       unheld = point (λ y. (v : ℕ) → 0 < count v (s.held y) → (0 < count v (put s.held o [] y)) ⊎ ((put s.callback o 0 v ≡ 0) ⊎ (stage (put s.phase o Absent y) ≡ 5))) o (λ v h. inr (inr (rw (same o) refl))) (λ y ne v h. inl (rw (ne_eqb y o ne) h));
       falls = point (λ y. Falling s.next (s.held y ++ s.weak y) → Falling s.next (put s.held o [] y ++ put s.weak o [] y)) o (λ f. rw (same o) tt) (λ y ne f. rw (ne_eqb y o ne) f);
       bare = point (λ y. 3 ≤ stage (put s.phase o Absent y) → stage (put s.phase o Absent y) ≤ 4 → ((3 ≤ stage (s.phase y)) × (stage (s.phase y) ≤ 4)) ⊎ ((w : ℕ) → count w (put s.weak o [] y) ≡ 0)) o (rw (same o) (λ h k. inr (λ w. refl))) (λ y ne. rw (ne_eqb y o ne) (λ h k. inl (h, k)));

@@ -1,5 +1,5 @@
 -- Which references the death of an object has still to serve, and what follows of lost callbacks.
-use Rattle.std.proofs.Common.{◌≡◌, ℕ, ◌+◌, ◌<◌, ◌≤◌, Bool, true, false, ◌⊎◌, List, [], length, sym, refl, ap, ◌∙◌, subst, inl, inr, MatchBool, arith}
+use Rattle.std.proofs.Common.{◌≡◌, ℕ, zero, suc, ◌+◌, ◌<◌, ◌≤◌, Bool, true, false, ◌⊎◌, List, [], length, sym, refl, ap, ◌∙◌, subst, inl, inr, MatchBool, arith}
 use Rattle.std.proofs.lemmas.Bool.{cases_lt}
 use Rattle.definition.specs.Base.{count}
 use Rattle.definition.specs.State.{Phase, Absent, Resting, DelOpen, Taking, Draining, Calling, Freeing, Leaving, State, is_unfreed}
@@ -10,7 +10,7 @@ use Rattle.law.proofs.Invariant.{Good, Inv}
 use Rattle.law.proofs.Stages.{stage, live_stage, stage_live, stage_cleared, unfreed_stage}
 use Rattle.law.proofs.StepKinds.{Moment}
 use Rattle.law.proofs.Told.{Told}
-use Rattle.law.proofs.Moved.{Serves, Turned, same_as, own, served, plain, new, Moved}
+use Rattle.law.proofs.Moved.{Serves, Turned, same_as, own, served, plain, new, Begins, Moved}
 use Rattle.law.proofs.Lists.{Lists, stage_below, live_before}
 use Rattle.law.proofs.AllMoved.{moment_moved}
 
@@ -45,6 +45,22 @@ watcher_born s i w p = by (cases_lt w s.next)
     by : (w < s.next) ⊎ (s.next ≤ w) → w < s.next
     by (inl h) = h
     by (inr h) = absurd (omega (arith, unborn_bare s i w h))
+
+-- a round holds 16 at most
+small_round : {p : Phase} {s m h q l w e r g k : ℕ} → Good p s m h q l w e r g k → r ≤ 16
+small_round {p = Absent} i = omega (arith, i)
+small_round {p = Resting} i = omega (arith, i)
+small_round {p = (DelOpen c)} i = omega (arith, i)
+small_round {p = Taking} i = omega (arith, i)
+small_round {p = Draining} i = omega (arith, i)
+small_round {p = (Calling c x)} i = omega (arith, i)
+small_round {p = (Freeing n)} i = omega (arith, i)
+small_round {p = Leaving} i = omega (arith, i)
+
+-- of every object, and of 0
+all_small : (s : State) → Inv s [] → (o : ℕ) → length (s.held o) ≤ 16
+all_small s i zero = omega (arith, i.zeroth)
+all_small s i (suc o) = small_round (i.good (suc o) (omega arith))
 
 -- what is not unfreed is nobody
 freed_stage : (p : Phase) → is_unfreed p ≡ false → stage p ≡ 5
@@ -157,6 +173,14 @@ module _ (st : Step) (h : List Step) (mo : Moment st) (i : Inv st.before []) (j 
         λ v f b. k.order o v f w b (inl (in_round o w sv)),
         match_map s.attends (λ q. (rw sv.phase refl, q ∙ ap (λ x. Calling x w) e)) (λ q. rw q refl) sv.turn,
       )
+
+  -- a round holds 16 at most, and takes only until it begins to drain
+  pub takes : (o w : ℕ) → Takes st o w → (length (t.held o) ≤ 16) × ((s.phase o ≡ Taking) ⊎ (s.held o ≡ []))
+  takes o w a = (all_small t j o, by (moved.held o w a.1))
+    where
+      by : (0 < count w (s.held o)) ⊎ ((0 < count w (s.weak o)) × Begins s o) → Begins s o
+      by (inl n) = absurd (a.0 n)
+      by (inr n) = n.1
 
   -- an object is freed only once its places are being emptied
   pub frees : (o : ℕ) → Freed st o → Emptying s o

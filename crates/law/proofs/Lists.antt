@@ -7,7 +7,7 @@ use Rattle.definition.proofs.Sums.{same, count_cons, count_append, count_length,
 use Rattle.law.proofs.Invariant.{Falling, lent_by, lent, Inv, alive}
 use Rattle.law.proofs.Stages.{stage, live_stage}
 use Rattle.law.proofs.Told.{Young, young_before, young_round}
-use Rattle.law.proofs.Moved.{Turned, same_as, own, served, plain, new, Unlisted, stays, taken, passed, over, Moved}
+use Rattle.law.proofs.Moved.{Turned, same_as, own, served, plain, new, Unlisted, stays, taken, passed, over, Begins, Moved}
 
 -- ---- falling lists hold each but once
 
@@ -108,9 +108,9 @@ module _ (s t : State) (i : Inv s []) (j : Inv t []) (m : Moved s t) (l : Lists 
   pub named_after : (o w : ℕ) → 0 < count w (t.held o) → 0 < w
   named_after o w h = by (m.held o w h)
     where
-      by : (0 < count w (s.held o)) ⊎ (0 < count w (s.weak o)) → 0 < w
+      by : (0 < count w (s.held o)) ⊎ ((0 < count w (s.weak o)) × Begins s o) → 0 < w
       by (inl k) = l.named o w k
-      by (inr k) = (stage_below s i w (omega (arith, l.standing o w k))).0
+      by (inr k) = (stage_below s i w (omega (arith, l.standing o w k.0))).0
 
   -- it is live
   pub live_after : (o w : ℕ) → 0 < count w (t.held o) → stage (t.phase w) ≡ 1
@@ -162,9 +162,9 @@ module _ (s t : State) (i : Inv s []) (j : Inv t []) (m : Moved s t) (l : Lists 
   refers_held_after : (o w : ℕ) → 0 < count w (t.held o) → (t.shape w).referent ≡ o
   refers_held_after o w h = by (m.held o w h)
     where
-      by : (0 < count w (s.held o)) ⊎ (0 < count w (s.weak o)) → (t.shape w).referent ≡ o
+      by : (0 < count w (s.held o)) ⊎ ((0 < count w (s.weak o)) × Begins s o) → (t.shape w).referent ≡ o
       by (inl k) = keeps_referent w (member o w (inl k)) (omega (arith, live_after o w h)) ∙ l.refers_held o w k
-      by (inr k) = keeps_referent w (member o w (inr k)) (omega (arith, live_after o w h)) ∙ l.refers_weak o w k
+      by (inr k) = keeps_referent w (member o w (inr k.0)) (omega (arith, live_after o w h)) ∙ l.refers_weak o w k.0
 
   -- once places are emptied the list is empty
   bare_after : (o w : ℕ) → 3 ≤ stage (t.phase o) → stage (t.phase o) ≤ 4 → count w (t.weak o) ≡ 0

@@ -50,6 +50,10 @@ pub data Unlisted (s t : State) (o w : ℕ) : Type 0 where
   passed : (stage (s.phase w) ≡ 1 → ⊥) → (2 ≤ stage (t.phase o)) ⊎ (t.callback w ≡ 0) → Unlisted s t o w
   over : stage (t.phase o) ≡ 5 → Unlisted s t o w
 
+-- the round of o takes references: it has none yet, or goes on taking
+abbrev pub Begins : State → ℕ → Type 0
+Begins s o = (s.phase o ≡ Taking) ⊎ (s.held o ≡ [])
+
 pub record Moved (s t : State) : Type 0 where
   pub ages : Ages s t
   pub turned : (w : ℕ) → Turned s t w
@@ -58,8 +62,8 @@ pub record Moved (s t : State) : Type 0 where
   -- what stands on a list stood there, or is a new reference to a live object
   pub listed : (o w : ℕ) → 0 < count w (t.weak o) → (0 < count w (s.weak o)) ⊎ ((w ≡ s.next) × ((t.shape w).referent ≡ o) × (stage (s.phase o) ≡ 1) × (stage (t.phase w) ≡ 1))
   pub unlisted : (o w : ℕ) → 0 < count w (s.weak o) → Unlisted s t o w
-  -- a round takes from the list of its own object
-  pub held : (o w : ℕ) → 0 < count w (t.held o) → (0 < count w (s.held o)) ⊎ (0 < count w (s.weak o))
+  -- a round takes from the list of its own object, until it begins to drain
+  pub held : (o w : ℕ) → 0 < count w (t.held o) → (0 < count w (s.held o)) ⊎ ((0 < count w (s.weak o)) × Begins s o)
   -- what it lets go has no callback then, or its object is freed
   pub unheld : (o w : ℕ) → 0 < count w (s.held o) → (0 < count w (t.held o)) ⊎ ((t.callback w ≡ 0) ⊎ (stage (t.phase o) ≡ 5))
   -- a round with the list behind it goes on falling

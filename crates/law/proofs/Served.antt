@@ -1,7 +1,7 @@
 -- Over every run: what upgrades answer, what dels keep, how callbacks are lost and turns for them opened, what frees leave.
-use Rattle.std.proofs.Common.{◌≡◌, ℕ, ◌<◌, ◌⊎◌, List, [], ◌∷◌, MatchBool, refl, arith}
+use Rattle.std.proofs.Common.{◌≡◌, ℕ, ◌<◌, ◌≤◌, ◌⊎◌, List, [], ◌∷◌, length, MatchBool, refl, arith}
 use Rattle.classes.specs.Rows.{Class}
-use Rattle.definition.specs.State.{State}
+use Rattle.definition.specs.State.{Taking, State}
 use Rattle.definition.specs.Calls.{Call, Upgrade, Reply}
 use Rattle.definition.specs.Opening.{opening}
 use Rattle.law.specs.Run.{Accepted, Step, run, history}
@@ -12,16 +12,17 @@ use Rattle.law.proofs.Moments.{Between, each_between, change_always}
 use Rattle.law.proofs.WithHistory.{Made, own, refused, small, made_before, made_after, every_step}
 use Rattle.law.proofs.Told.{Told, told_kept, kept, upgrades}
 use Rattle.law.proofs.Lists.{Lists}
-use Rattle.law.proofs.Linked.{Linked, loses, call_opens, drained, rounds_over, freed, frees}
+use Rattle.law.proofs.Linked.{Linked, loses, call_opens, drained, takes, rounds_over, freed, frees}
 use Rattle.law.proofs.Ways.{linked_after}
 
--- of each step, given the steps before it: eight fields of what lives come to
+-- of each step, given the steps before it: nine fields of what lives come to
 pub record Served (st : Step) (h : List Step) : Type 0 where
   pub kept : (o : ℕ) → Kept st o → Never (λ e. (c : ℕ) × (w : ℕ) × OpensCall e o c w) h
   pub upgrades : (w : ℕ) (r : Reply) → st.what ≡ Accepted (Upgrade w) r → 0 < r.number → Live st.before r.number × Never (λ e. Clears e r.number) h
   pub loses : (w c : ℕ) → Loses st w c → Cleared st.before w ⊎ ((o : ℕ) × Drained st o w c)
   pub drained : (o w c : ℕ) → Drained st o w c → Watched h o w c × ((v d : ℕ) → Once (λ e. Drained e o v d) h → w < v) × MatchBool st.before.attends (OpensCall st o c w) (NoTurnOf st.after o)
   pub call_opens : (o c w : ℕ) → OpensCall st o c w → Drained st o w c
+  pub takes : (o w : ℕ) → Takes st o w → (length (st.after.held o) ≤ 16) × ((st.before.phase o ≡ Taking) ⊎ (st.before.held o ≡ []))
   pub rounds_over : (o w c : ℕ) → Emptying st.before o → 0 < c → Watched h o w c → Once (λ e. Drained e o w c) h ⊎ (Never (λ e. Takes e o w) h × (Live st.before w → ⊥))
   pub freed : (o : ℕ) → Freed st o → (w c : ℕ) → 0 < c → Watched h o w c → Once (λ e. Drained e o w c) h ⊎ (Never (λ e. Takes e o w) h × (Live st.before w → ⊥))
   pub frees : (o : ℕ) → Freed st o → Emptying st.before o
@@ -34,7 +35,7 @@ Story s h = Told s h × Linked s h
 pub story_kept : (st : Step) (h : List Step) → Moment st → Inv st.before [] → Inv st.after [] → Story st.before h → Story st.after (st ∷ h)
 story_kept st h m i j k = (told_kept st h m i j k.0, linked_after st h m i j k.0 k.1)
 
--- and the eight fields follow from it
+-- and the nine fields follow from it
 pub story_served : (st : Step) (h : List Step) → Moment st → Inv st.before [] → Inv st.after [] → Story st.before h → Served st h
 story_served st h m i j k = record {
   kept = kept st h m k.0;
@@ -42,6 +43,7 @@ story_served st h m i j k = record {
   loses = loses st h m i j k.0 k.1;
   drained = drained st h m i j k.0 k.1;
   call_opens = call_opens st h m i j k.0 k.1;
+  takes = takes st h m i j k.0 k.1;
   rounds_over = rounds_over st h m i j k.0 k.1;
   freed = freed st h m i j k.0 k.1;
   frees = frees st h m i j k.0 k.1;

@@ -9,7 +9,7 @@ use Rattle.definition.proofs.Sums.{same, point, count_cons, count_append, count_
 use Rattle.definition.proofs.Advance.{Rounds}
 use Rattle.law.proofs.Invariant.{Falling, Inv, now_spent, between, live_born, live_counted}
 use Rattle.law.proofs.Stages.{stage, stage_live, phase_older, older_ages}
-use Rattle.law.proofs.Moved.{falling_drop, same_as, Unlisted, stays, taken, passed, Moved}
+use Rattle.law.proofs.Moved.{falling_drop, same_as, Unlisted, stays, taken, passed, Begins, Moved}
 
 -- ---- counts
 
@@ -38,6 +38,11 @@ module _ (s : State) (i : Inv s []) (o w : ℕ) (rest : List ℕ) (r : Rounds s 
       by : Rounds s o → stage (s.phase o) ≡ 2
       by (inl ph) = rw ph refl
       by (inr d) = rw d.0 refl
+
+  -- and its round takes
+  begins : Rounds s o → Begins s o
+  begins (inl ph) = inl ph
+  begins (inr d) = inr d.1
 
   -- it is passed over
   abbrev off : State
@@ -91,7 +96,7 @@ module _ (s : State) (i : Inv s []) (o w : ℕ) (rest : List ℕ) (r : Rounds s 
     calls = λ y c v e. inl (calls y c v e);
     listed = λ y v h. inl (listed y v h);
     unlisted = point (λ y. (v : ℕ) → 0 < count v (s.weak y) → Unlisted s on y v) o (λ v h. gone v (cases_eq v w) (rw wk at h)) (λ y ne v h. stays (rw (ne_eqb y o ne) h));
-    held = point (λ y. (v : ℕ) → 0 < count v (put s.held o (s.held o ++ (w ∷ [])) y) → (0 < count v (s.held y)) ⊎ (0 < count v (s.weak y))) o (λ v h. from v (rw (same o) at h) (cases_lt 0 (count v (s.held o)))) (λ y ne v h. inl (rw (ne_eqb y o ne) at h));
+    held = point (λ y. (v : ℕ) → 0 < count v (put s.held o (s.held o ++ (w ∷ [])) y) → (0 < count v (s.held y)) ⊎ ((0 < count v (s.weak y)) × Begins s y)) o (λ v h. from v (rw (same o) at h) (cases_lt 0 (count v (s.held o)))) (λ y ne v h. inl (rw (ne_eqb y o ne) at h));
     unheld = point (λ y. (v : ℕ) → 0 < count v (s.held y) → (0 < count v (put s.held o (s.held o ++ (w ∷ [])) y)) ⊎ ((s.callback v ≡ 0) ⊎ (stage (put s.phase o Taking y) ≡ 5))) o (λ v h. inl (rw (same o) (omega (arith, count_append v (s.held o) (w ∷ []))))) (λ y ne v h. inl (rw (ne_eqb y o ne) h));
     falls = point (λ y. Falling s.next (s.held y ++ s.weak y) → Falling s.next (put s.held o (s.held o ++ (w ∷ [])) y ++ put s.weak o rest y)) o (λ f. rw (same o, append_assoc (s.held o) (w ∷ []) rest) (rw wk at f)) (λ y ne f. rw (ne_eqb y o ne) f);
     bare = λ y h k. inl (omega (arith, stages y), omega (arith, stages y));
@@ -103,9 +108,9 @@ module _ (s : State) (i : Inv s []) (o w : ℕ) (rest : List ℕ) (r : Rounds s 
       gone v (inl q) h = taken (rw (same o) (omega (arith, count_append v (s.held o) (w ∷ []), ap (λ (x : ℕ). count x (w ∷ [])) q, count_here w [])))
       gone v (inr ne) h = stays (rw (same o) (count_rest v w rest ne h))
 
-      from : (v : ℕ) → 0 < count v (s.held o ++ (w ∷ [])) → (0 < count v (s.held o)) ⊎ (count v (s.held o) ≤ 0) → (0 < count v (s.held o)) ⊎ (0 < count v (s.weak o))
+      from : (v : ℕ) → 0 < count v (s.held o ++ (w ∷ [])) → (0 < count v (s.held o)) ⊎ (count v (s.held o) ≤ 0) → (0 < count v (s.held o)) ⊎ ((0 < count v (s.weak o)) × Begins s o)
       from v h (inl k) = inl k
-      from v h (inr k) = inr (rw wk (omega (arith, count_append v (s.held o) (w ∷ []), count_cons v w rest)))
+      from v h (inr k) = inr (rw wk (omega (arith, count_append v (s.held o) (w ∷ []), count_cons v w rest)), begins r)
 
   -- both ways
   pub takes_moved : Moved s (takes w rest o s)

@@ -10,7 +10,7 @@ use Rattle.law.proofs.Invariant.{Falling, Inv}
 use Rattle.law.proofs.Stages.{stage, live_stage, stage_live, stage_cleared, stage_range}
 use Rattle.law.proofs.StepKinds.{Moment}
 use Rattle.law.proofs.Told.{Told, clears, drains, takes, once_map}
-use Rattle.law.proofs.Moved.{Serves, Turned, same_as, own, served, plain, new, Unlisted, stays, taken, passed, over, Moved}
+use Rattle.law.proofs.Moved.{Serves, Turned, same_as, own, served, plain, new, Unlisted, stays, taken, passed, over, Begins, Moved}
 use Rattle.law.proofs.Lists.{falling_rest, falling_below, falling_once, member, live_after, live_before, live_earlier, lists_after}
 use Rattle.law.proofs.Linked.{Way, gone, round, waits, ended, Linked, watcher_born, moved, served_drained, drained_served, in_round}
 
@@ -53,7 +53,11 @@ module _ (st : Step) (h : List Step) (mo : Moment st) (i : Inv st.before []) (j 
 
   -- what is left was left before, but a new reference to what is live
   left_before : (o w : ℕ) → (0 < count w (t.held o)) ⊎ (0 < count w (t.weak o)) → ((0 < count w (s.held o)) ⊎ (0 < count w (s.weak o))) ⊎ (stage (s.phase o) ≡ 1)
-  left_before o w (inl n) = inl (mv.held o w n)
+  left_before o w (inl n) = inl (held (mv.held o w n))
+    where
+      held : (0 < count w (s.held o)) ⊎ ((0 < count w (s.weak o)) × Begins s o) → (0 < count w (s.held o)) ⊎ (0 < count w (s.weak o))
+      held (inl a) = inl a
+      held (inr a) = inr a.0
   left_before o w (inr n) = by (mv.listed o w n)
     where
       by : (0 < count w (s.weak o)) ⊎ ((w ≡ s.next) × ((t.shape w).referent ≡ o) × (stage (s.phase o) ≡ 1) × (stage (t.phase w) ≡ 1)) → ((0 < count w (s.held o)) ⊎ (0 < count w (s.weak o))) ⊎ (stage (s.phase o) ≡ 1)

@@ -29,6 +29,7 @@ lives_of st h l s = record {
   loses = s.loses;
   drained = s.drained;
   call_opens = s.call_opens;
+  takes = s.takes;
   rounds_over = s.rounds_over;
   freed = s.freed;
   frees = s.frees;

@@ -1,9 +1,9 @@
 -- The law of the core, over every run: nothing is lost and nothing is kept by mistake; how objects live and die; hand backs end.
-use Rattle.std.specs.Prelude.{◌≡◌, ℕ, ◌+◌, ◌<◌, ◌≤◌, true, false, not, ◌&&◌, ◌⊎◌, List, [], ◌∷◌, ◌++◌, map, Some, None, Ok, Err, MatchBool, Option, Result, ◌==◌, ◌≢◌}
+use Rattle.std.specs.Prelude.{◌≡◌, ℕ, ◌+◌, ◌<◌, ◌≤◌, true, false, not, ◌&&◌, ◌⊎◌, List, [], ◌∷◌, ◌++◌, length, map, Some, None, Ok, Err, MatchBool, Option, Result, ◌==◌, ◌≢◌}
 use Rattle.refusal.specs.declared.Fault.{Fault}
 use Rattle.classes.specs.Rows.{Class}
 use Rattle.definition.specs.Base.{bit, count, sum_to}
-use Rattle.definition.specs.State.{Phase, DelOpen, State, is_unfreed, is_live, is_open}
+use Rattle.definition.specs.State.{Phase, DelOpen, Taking, State, is_unfreed, is_live, is_open}
 use Rattle.definition.specs.Death.{found, rests}
 use Rattle.definition.specs.Calls.{Call, Upgrade, HandBack, Del, Callback, Asked, Turn, Reply, refusal}
 use Rattle.definition.specs.Opening.{can_open, opening}
@@ -63,6 +63,8 @@ pub record Lives (st : Step) (h : List Step) : Type 0 where
   pub drained : (o w c : ℕ) → Drained st o w c → Watched h o w c × ((v d : ℕ) → Once (λ e. Drained e o v d) h → w < v) × MatchBool st.before.attends (OpensCall st o c w) (NoTurnOf st.after o)
   -- and so opens every callback turn
   pub call_opens : (o c w : ℕ) → OpensCall st o c w → Drained st o w c
+  -- a round holds 16 at most, and takes only until it begins to drain
+  pub takes : (o w : ℕ) → Takes st o w → (length (st.after.held o) ≤ 16) × ((st.before.phase o ≡ Taking) ⊎ (st.before.held o ≡ []))
   -- When an object's places are being emptied, each reference that had a callback when clearing began has lost it to this
   -- death, or its own clearing had begun and no round took it
   pub rounds_over : (o w c : ℕ) → Emptying st.before o → 0 < c → Watched h o w c → Once (λ e. Drained e o w c) h ⊎ (Never (λ e. Takes e o w) h × (Live st.before w → ⊥))
