@@ -2,13 +2,13 @@
 use Rattle.std.proofs.Common.{◌≡◌, ℕ, suc, ◌+◌, ◌<◌, Bool, true, false, cond, not, ◌&&◌, eqb, ltb, ◌⊎◌, List, [], length, get_or, set, refl, ◌∙◌, inl, inr}
 use Rattle.std.proofs.lemmas.Bool.{ne_eqb, cases_eq, cond_both}
 use Rattle.std.proofs.lemmas.List.{get_or-set_same, get_or-set_other}
-use Rattle.definition.specs.State.{Phase, Draining, Freeing, Leaving, State, is_unfreed, is_live}
+use Rattle.definition.specs.State.{Draining, Freeing, Leaving, State}
 use Rattle.definition.specs.Changes.{with_phase, with_places, with_callback, with_giving}
 use Rattle.definition.specs.Death.{spent, takes, drains, unlisted, leaving, give_up, advance}
 use Rattle.definition.proofs.Sums.{same, count_here}
 use Rattle.definition.proofs.Advance.{give_up_cases, advance_cases}
 use Rattle.law.specs.Run.{Small}
-use Rattle.law.specs.Events.{Cleared}
+use Rattle.law.specs.Events.{Cleared, Emptying}
 use Rattle.law.specs.Places.{Place, Dictionary, Slot, Edge, Callback, names, Emptied, Named}
 use Rattle.law.proofs.Invariant.{Inv}
 use Rattle.law.proofs.Listed.{Listed}
@@ -64,11 +64,7 @@ because : {A : Type 0} (x y : ℕ) → A → (x ≡ y) ⊎ (x ≡ 0) → (x ≡ 
 because x y a (inl e) = inl e
 because x y a (inr e) = inr (e, a)
 
--- the object of a death under way
-cleared : (s : State) (o : ℕ) (p : Phase) → s.phase o ≡ p → is_unfreed p ≡ true → is_live p ≡ false → Cleared s o
-cleared s o p e u l = (rw e u, rw e l)
-
-module _ (s : State) (o : ℕ) (c : Cleared s o) where
+module _ (s : State) (o : ℕ) (c : Emptying s o) where
   -- one place of it is emptied
   empties_lost : (k : ℕ) → k < length (s.places o) → (p : ℕ) (q : Place) → Lost s (with_places o (set (s.places o) k 0) s) p q
   empties_lost k h p q = go (cases_eq p o)
@@ -117,22 +113,22 @@ module _ (s : State) (o : ℕ) (c : Cleared s o) where
       go (inl e) = rw e (by q)
       go (inr ne) = inl (same_names s t p (rw (ne_eqb p o ne) refl, rw (ne_eqb p o ne) refl, rw (ne_eqb p o ne) refl) q)
 
-  -- a reference to it loses its callback
-  out_lost : (w : ℕ) → (s.shape w).referent ≡ o → (p : ℕ) (q : Place) → Lost s (with_callback w 0 s) p q
-  out_lost w r p q = go (cases_eq p w)
-    where
-      t : State
-      t = with_callback w 0 s
+-- a reference to an object whose clearing has begun loses its callback
+out_lost : (s : State) (o : ℕ) → Cleared s o → (w : ℕ) → (s.shape w).referent ≡ o → (p : ℕ) (q : Place) → Lost s (with_callback w 0 s) p q
+out_lost s o c w r p q = go (cases_eq p w)
+  where
+    t : State
+    t = with_callback w 0 s
 
-      by : (q : Place) → Lost s t w q
-      by Dictionary = inl refl
-      by (Slot i) = inl refl
-      by (Edge j) = inl refl
-      by Callback = inr (rw (same w) refl, inr (rw r c))
+    by : (q : Place) → Lost s t w q
+    by Dictionary = inl refl
+    by (Slot i) = inl refl
+    by (Edge j) = inl refl
+    by Callback = inr (rw (same w) refl, inr (rw r c))
 
-      go : (p ≡ w) ⊎ (p ≡ w → ⊥) → Lost s t p q
-      go (inl e) = rw e (by q)
-      go (inr ne) = inl (same_names s t p (refl, refl, rw (ne_eqb p w ne) refl) q)
+    go : (p ≡ w) ⊎ (p ≡ w → ⊥) → Lost s t p q
+    go (inl e) = rw e (by q)
+    go (inr ne) = inl (same_names s t p (refl, refl, rw (ne_eqb p w ne) refl) q)
 
 -- the round loses the first callback alone
 drains_same : (s : State) (o w : ℕ) (ws : List ℕ) (p : ℕ) → Same (with_callback w 0 s) (drains w ws o s) p
@@ -150,15 +146,15 @@ step_named s i l p q = advance_cases s (λ t. Lost s t p q) (record {
   takes = λ o below top gv r w rest wk few. still (takes w rest o s) (takes_same s o w rest p);
   completes = λ o below top gv ph w ws hd. still (with_phase o Draining s) (refl, refl, refl);
   clears = λ o below top gv r hd wk. still (with_phase o (Freeing 0) s) (refl, refl, refl);
-  drains = λ o below top gv ph w ws hd. likewise s (with_callback w 0 s) (drains w ws o s) p q (drains_same s o w ws p) (out_lost s o (cleared s o Draining ph refl refl) w (l.round o w (rw hd (count_here w ws))) p q);
+  drains = λ o below top gv ph w ws hd. likewise s (with_callback w 0 s) (drains w ws o s) p q (drains_same s o w ws p) (out_lost s o (rw ph refl, rw ph refl) w (l.round o w (rw hd (count_here w ws))) p q);
   empties = λ o below top gv k ph h.
       let t = with_places o (set (s.places o) k 0) s in
-      gives_up (with_phase o (Freeing (suc k)) t) (get_or (s.places o) k 0) (likewise s t (with_phase o (Freeing (suc k)) t) p q (refl, refl, refl) (empties_lost s o (cleared s o (Freeing k) ph refl refl) k h p q));
+      gives_up (with_phase o (Freeing (suc k)) t) (get_or (s.places o) k 0) (likewise s t (with_phase o (Freeing (suc k)) t) p q (refl, refl, refl) (empties_lost s o (inl (k, ph)) k h p q));
   leaves = λ o below top gv k ph h.
       let t = with_callback o 0 (unlisted o s) in
       gives_up (with_phase o Leaving t) (s.callback o)
-      (leaves_lost s o (cleared s o (Freeing k) ph refl refl) (with_phase o Leaving t) (λ y ne. (refl, refl, rw (ne_eqb y o ne) refl)) refl refl (rw (same o) refl) p q);
-  frees = λ o below top gv ph. frees_lost s o (cleared s o Leaving ph refl refl) below p q;
+      (leaves_lost s o (inl (k, ph)) (with_phase o Leaving t) (λ y ne. (refl, refl, rw (ne_eqb y o ne) refl)) refl refl (rw (same o) refl) p q);
+  frees = λ o below top gv ph. frees_lost s o (inr ph) below p q;
 })
   where
     still : (t : State) → Same s t p → Lost s t p q

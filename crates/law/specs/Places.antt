@@ -3,7 +3,7 @@ use Rattle.std.specs.Prelude.{◌≡◌, ℕ, suc, ◌+◌, Bool, true, false, c
 use Rattle.definition.specs.State.{State, is_unfreed}
 use Rattle.definition.specs.Calls.{Call, Make, Hold, Drop, Store, Swap, SetDictionary, Weaken, Upgrade, ListWeak, Intern, Attend, SetDel, HandBack, Reply}
 use Rattle.law.specs.Run.{What, Accepted, Refused, Small}
-use Rattle.law.specs.Events.{Cleared}
+use Rattle.law.specs.Events.{Cleared, Emptying}
 
 pub data Place : Type 0 where
   Dictionary : Place
@@ -66,12 +66,12 @@ put_by (Attend host) r s p q = names s p q
 put_by (SetDel class del) r s p q = names s p q
 put_by (HandBack turn lent) r s p q = names s p q
 
--- a death empties a place of its own object, or the callback place of a reference to it
+-- a death empties a place of its own object, after its rounds, or the callback place of a reference to it
 abbrev pub Emptied : State → ℕ → Place → Type 0
-Emptied s p Dictionary = Cleared s p
-Emptied s p (Slot i) = Cleared s p
-Emptied s p (Edge j) = Cleared s p
-Emptied s p Callback = Cleared s p ⊎ Cleared s (s.shape p).referent
+Emptied s p Dictionary = Emptying s p
+Emptied s p (Slot i) = Emptying s p
+Emptied s p (Edge j) = Emptying s p
+Emptied s p Callback = Emptying s p ⊎ Cleared s (s.shape p).referent
 
 -- a place names what an accepted call last put there, until a death empties it
 abbrev pub Named : What → State → State → Type 0
