@@ -3,13 +3,13 @@ use Rattle.std.proofs.Common.{◌≡◌, ℕ, zero, suc, ◌+◌, ◌<◌, ◌�
 use Rattle.std.proofs.lemmas.Bool.{eqb-false, ne_eqb, and_parts, not-true, ltb-false, le-ltb}
 use Rattle.classes.specs.Rows.{Class, class_at, all_good, good_rows, plain_weak}
 use Rattle.definition.specs.Base.{bit, sum_to}
-use Rattle.definition.specs.State.{State}
+use Rattle.definition.specs.State.{Phase, Absent, Resting, DelOpen, Taking, Draining, Calling, Freeing, Leaving, State, is_live}
 use Rattle.definition.specs.Opening.{can_open, opening}
 use Rattle.definition.specs.Calls.{HandBack, refusal}
 use Rattle.definition.proofs.Sums.{same, count_other}
 use Rattle.law.specs.Events.{Live}
 use Rattle.law.specs.Law.{named_by, references, Counted}
-use Rattle.law.proofs.Invariant.{Falling, placed_by, lent_by, placed, lent, unfreed_sum, open_sum, Inv, live_born, live_counted}
+use Rattle.law.proofs.Invariant.{Falling, placed_by, lent_by, placed, lent, unfreed_sum, open_sum, Good, Inv, live_born, live_counted}
 use Rattle.law.proofs.Moves.{lent_small}
 
 -- ---- a core that has just been opened
@@ -60,10 +60,21 @@ sum_plus : (n : ℕ) (f g h : ℕ → ℕ) → ((k : ℕ) → h k ≡ f k + g k)
 sum_plus zero f g h e = refl
 sum_plus (suc n) f g h e = omega (arith, e n, sum_plus n f g h e)
 
+-- what is not live has no reference and no mark
+cold : {p : Phase} {s m h q l w e r g k : ℕ} → Good p s m h q l w e r g k → is_live p ≡ false → s + m ≡ 0
+cold {p = Absent} i z = omega (arith, i)
+cold {p = Resting} i z = let y : ◌≡◌ {A = ℕ} 0 1 = cc in absurd (omega arith)
+cold {p = (DelOpen c)} i z = let y : ◌≡◌ {A = ℕ} 0 1 = cc in absurd (omega arith)
+cold {p = Taking} i z = omega (arith, i)
+cold {p = Draining} i z = omega (arith, i)
+cold {p = (Calling c x)} i z = omega (arith, i)
+cold {p = (Freeing n)} i z = omega (arith, i)
+cold {p = Leaving} i z = omega (arith, i)
+
 -- counts are references, and more
 pub counted_at : (s : State) → Inv s [] → Counted s
-unfolding references placed lent
-counted_at s i = record { counts = counts; handles = handles; live = live; width = width }
+unfolding references placed lent open_sum unfreed_sum
+counted_at s i = record { counts = counts; handles = handles; live = live; width = width; unheld = λ x px. cold (i.good x px); turns = i.frame.turns; number = i.frame.unfreed; stacked = λ o po. (i.good o po).stacked }
   where
     counts : (x : ℕ) → 0 < x → s.strong x ≡ references s x
     counts x px = omega (arith, i.good x px, sum_plus s.next (placed_by s x) (lent_by s x) (named_by s x) (λ p. omega arith))

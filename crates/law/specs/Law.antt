@@ -3,7 +3,7 @@ use Rattle.std.specs.Prelude.{◌≡◌, ℕ, ◌+◌, ◌<◌, ◌≤◌, true,
 use Rattle.refusal.specs.declared.Fault.{Fault}
 use Rattle.classes.specs.Rows.{Class}
 use Rattle.definition.specs.Base.{bit, count, sum_to}
-use Rattle.definition.specs.State.{Phase, DelOpen, Taking, State, is_unfreed, is_live, is_open}
+use Rattle.definition.specs.State.{Phase, DelOpen, Taking, State, is_unfreed, is_live, is_open, is_resting}
 use Rattle.definition.specs.Death.{found, rests}
 use Rattle.definition.specs.Calls.{Call, Upgrade, HandBack, Del, Callback, Asked, Turn, Reply, refusal}
 use Rattle.definition.specs.Opening.{can_open, opening}
@@ -155,6 +155,14 @@ pub record Counted (s : State) : Type 0 where
   pub handles : (x : ℕ) → s.handles x ≤ s.strong x
   pub live : (x : ℕ) → Live s x → 0 < s.strong x + bit (s.interned x)
   pub width : (x : ℕ) → s.strong x < 4294967295
+  -- nothing names or marks what is not live
+  pub unheld : (x : ℕ) → 0 < x → is_live (s.phase x) ≡ false → s.strong x + bit (s.interned x) ≡ 0
+  -- as many turns are open as deaths wait for one
+  pub turns : s.turns ≡ sum_to s.next (λ o. bit (is_open (s.phase o)))
+  -- the number of unfreed objects
+  pub number : s.unfreed ≡ sum_to s.next (λ o. bit (is_unfreed (s.phase o)))
+  -- the stack is of the dying, each once
+  pub stacked : (o : ℕ) → 0 < o → count o s.stack ≡ bit (is_unfreed (s.phase o) && not (is_resting (s.phase o)))
 
 -- what the tallies say of the state that a run has come to
 pub record Tallied (es : List Exchange) (s : State) : Type 0 where
