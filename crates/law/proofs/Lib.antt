@@ -38,6 +38,7 @@ pub mod Smalls
 pub mod Calling
 pub mod Deaths
 pub mod Nesting
+pub mod Waiting
 pub mod Everywhere
 pub mod Lived
 pub mod StepKinds

@@ -31,6 +31,7 @@ lives_of st h l s = record {
   call_opens = s.call_opens;
   takes = s.takes;
   rounds_over = s.rounds_over;
+  call_ends = l.call_ends;
   freed = s.freed;
   frees = s.frees;
   nested = l.nested;

@@ -3,7 +3,7 @@ use Rattle.std.specs.Prelude.{◌≡◌, ℕ, ◌+◌, ◌<◌, ◌≤◌, true,
 use Rattle.refusal.specs.declared.Fault.{Fault}
 use Rattle.classes.specs.Rows.{Class}
 use Rattle.definition.specs.Base.{bit, count, sum_to}
-use Rattle.definition.specs.State.{Phase, DelOpen, Taking, State, is_unfreed, is_live, is_open, is_resting}
+use Rattle.definition.specs.State.{Phase, DelOpen, Taking, State, is_unfreed, is_live, is_open, is_resting, Calling}
 use Rattle.definition.specs.Death.{found, rests}
 use Rattle.definition.specs.Calls.{Call, Upgrade, HandBack, Del, Callback, Asked, Turn, Reply, refusal}
 use Rattle.definition.specs.Opening.{can_open, opening}
@@ -68,6 +68,8 @@ pub record Lives (st : Step) (h : List Step) : Type 0 where
   -- When an object's places are being emptied, each reference that had a callback when clearing began has lost it to this
   -- death, or its own clearing had begun and no round took it
   pub rounds_over : (o w c : ℕ) → Emptying st.before o → 0 < c → Watched h o w c → Once (λ e. Drained e o w c) h ⊎ (Never (λ e. Takes e o w) h × (Live st.before w → ⊥))
+  -- a callback turn ends with its hand back, and not before
+  pub call_ends : (o c w : ℕ) → st.before.phase o ≡ Calling c w → (st.after.phase o ≡ Calling c w) ⊎ (HandedBack st.what × NoTurnOf st.after o)
   -- When an object is freed, each reference that had a callback when clearing began has lost it to this death, or its own
   -- clearing has begun and no round took it
   pub freed : (o : ℕ) → Freed st o → (w c : ℕ) → 0 < c → Watched h o w c → Once (λ e. Drained e o w c) h ⊎ (Never (λ e. Takes e o w) h × (Live st.before w → ⊥))
