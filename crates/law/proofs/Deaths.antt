@@ -6,12 +6,13 @@ use Rattle.definition.specs.Death.{found}
 use Rattle.definition.proofs.Advance.{resting_phase}
 use Rattle.law.specs.Run.{Step}
 use Rattle.law.specs.Events.{Dies, Kept, Clears, OpensDel}
-use Rattle.law.specs.Law.{HandedBack}
+use Rattle.law.specs.Law.{HandedBack, del_turn}
 use Rattle.law.proofs.Living.{Happens, goes, comes, asks, clears, ends, Changes}
 
--- four fields of the record Lives
+-- five fields of the record Lives
 pub record OneStep (st : Step) : Type 0 where
   pub starts : (o : ℕ) → Dies st o → (st.before.strong o ≡ 1) × (st.before.interned o ≡ false) × MatchBool (st.before.attends && not (eqb (found st.before o) 0)) (OpensDel st o (found st.before o)) (Clears st o)
+  pub started : (o : ℕ) → Dies st o → st.after.strong o ≡ del_turn (st.after.phase o)
   pub del_opens : (o class : ℕ) → OpensDel st o class → Dies st o
   pub del_ends : (o class : ℕ) → st.before.phase o ≡ DelOpen class → (st.after.phase o ≡ DelOpen class) ⊎ (HandedBack st.what × MatchBool (eqb (st.after.strong o) 0 && not (st.after.interned o)) (Clears st o) (Kept st o))
   pub clears : (o : ℕ) → Clears st o → Dies st o ⊎ ((class : ℕ) × (st.before.phase o ≡ DelOpen class))
@@ -25,8 +26,20 @@ module _ (st : Step) (ch : Changes st.what st.before st.after) where
       go (goes (inl e)) = absurd (both_ways (is_resting (st.after.phase o)) d.1.1 (rw e d.0))
       go (goes (inr c)) = absurd (both_ways (is_live (st.before.phase o)) c.0.1 (rw (resting_phase (st.before.phase o) d.0) refl))
       go (comes a b) = absurd (both_ways (is_resting (st.before.phase o)) (rw a refl) d.0)
-      go (asks l e ph k) = (l.one, l.unmarked, rw e (rw l.rests refl, ph))
-      go (clears l e ph k) = (l.one, l.unmarked, rw e (rw l.rests refl, rw ph (refl, refl)))
+      go (asks l e ph k n) = (l.one, l.unmarked, rw e (rw l.rests refl, ph))
+      go (clears l e ph k n) = (l.one, l.unmarked, rw e (rw l.rests refl, rw ph (refl, refl)))
+      go (ends class ph h e) = absurd (both_ways (is_resting (st.before.phase o)) (rw ph refl) d.0)
+
+  -- and then no other reference is left than that del turn
+  started : (o : ℕ) → Dies st o → st.after.strong o ≡ del_turn (st.after.phase o)
+  started o d = go (ch.phases o)
+    where
+      go : Happens st.what st.before st.after o → st.after.strong o ≡ del_turn (st.after.phase o)
+      go (goes (inl e)) = absurd (both_ways (is_resting (st.after.phase o)) d.1.1 (rw e d.0))
+      go (goes (inr c)) = absurd (both_ways (is_live (st.before.phase o)) c.0.1 (rw (resting_phase (st.before.phase o) d.0) refl))
+      go (comes a b) = absurd (both_ways (is_resting (st.before.phase o)) (rw a refl) d.0)
+      go (asks l e ph k n) = rw ph n
+      go (clears l e ph k n) = rw ph n
       go (ends class ph h e) = absurd (both_ways (is_resting (st.before.phase o)) (rw ph refl) d.0)
 
   -- no del turn opens otherwise
@@ -37,8 +50,8 @@ module _ (st : Step) (ch : Changes st.what st.before st.after) where
       go (goes (inl e)) = absurd (both_ways (is_open (st.before.phase o)) d.0 (rw (sym e ∙ d.1) refl))
       go (goes (inr c)) = absurd (both_ways (is_live (st.after.phase o)) c.1 (rw d.1 refl))
       go (comes a b) = absurd (both_ways (is_resting (st.after.phase o)) (rw d.1 refl) (rw b refl))
-      go (asks l e ph k) = (rw l.rests refl, rw ph (refl, refl))
-      go (clears l e ph k) = (rw l.rests refl, rw ph (refl, refl))
+      go (asks l e ph k n) = (rw l.rests refl, rw ph (refl, refl))
+      go (clears l e ph k n) = (rw l.rests refl, rw ph (refl, refl))
       go (ends class' ph h e) = absurd (both_ways (is_open (st.before.phase o)) d.0 (rw ph refl))
 
   -- a del turn stays open, or its hand back ends it
@@ -49,8 +62,8 @@ module _ (st : Step) (ch : Changes st.what st.before st.after) where
       go (goes (inl e)) = inl (e ∙ d)
       go (goes (inr c)) = absurd (both_ways (is_live (st.before.phase o)) c.0.1 (rw d refl))
       go (comes a b) = absurd (both_ways (is_unfreed (st.before.phase o)) (rw a refl) (rw d refl))
-      go (asks l e ph k) = absurd (both_ways (is_resting (st.before.phase o)) (rw d refl) (rw l.rests refl))
-      go (clears l e ph k) = absurd (both_ways (is_resting (st.before.phase o)) (rw d refl) (rw l.rests refl))
+      go (asks l e ph k n) = absurd (both_ways (is_resting (st.before.phase o)) (rw d refl) (rw l.rests refl))
+      go (clears l e ph k n) = absurd (both_ways (is_resting (st.before.phase o)) (rw d refl) (rw l.rests refl))
       go (ends class' ph h e) = inr (h, e)
 
   -- clearing begins with a death or with the end of a del turn
@@ -61,10 +74,10 @@ module _ (st : Step) (ch : Changes st.what st.before st.after) where
       go (goes (inl e)) = absurd (both_ways (is_live (st.after.phase o)) d.1.1 (rw e d.0))
       go (goes (inr c)) = absurd (both_ways (is_live (st.before.phase o)) c.0.1 d.0)
       go (comes a b) = absurd (both_ways (is_live (st.before.phase o)) (rw a refl) d.0)
-      go (asks l e ph k) = inl (rw l.rests refl, rw ph (refl, refl))
-      go (clears l e ph k) = inl (rw l.rests refl, rw ph (refl, refl))
+      go (asks l e ph k n) = inl (rw l.rests refl, rw ph (refl, refl))
+      go (clears l e ph k n) = inl (rw l.rests refl, rw ph (refl, refl))
       go (ends class' ph h e) = inr (class', ph)
 
-  -- the four of them
+  -- the five of them
   pub one_step : OneStep st
-  one_step = record { starts = starts; del_opens = del_opens; del_ends = del_ends; clears = clearing }
+  one_step = record { starts = starts; started = started; del_opens = del_opens; del_ends = del_ends; clears = clearing }

@@ -32,8 +32,8 @@ DelEnded s t o = MatchBool (eqb (t.strong o) 0 && not (t.interned o)) (Live s o 
 pub data Happens (what : What) (s t : State) (o : ℕ) : Type 0 where
   goes : Goes s t o → Happens what s t o
   comes : s.phase o ≡ Absent → t.phase o ≡ Resting → Happens what s t o
-  asks : Last s o → (s.attends && not (eqb (found s o) 0)) ≡ true → t.phase o ≡ DelOpen (found s o) → t.stack ≡ o ∷ s.stack → Happens what s t o
-  clears : Last s o → (s.attends && not (eqb (found s o) 0)) ≡ false → t.phase o ≡ Taking → t.stack ≡ o ∷ s.stack → Happens what s t o
+  asks : Last s o → (s.attends && not (eqb (found s o) 0)) ≡ true → t.phase o ≡ DelOpen (found s o) → t.stack ≡ o ∷ s.stack → t.strong o ≡ 1 → Happens what s t o
+  clears : Last s o → (s.attends && not (eqb (found s o) 0)) ≡ false → t.phase o ≡ Taking → t.stack ≡ o ∷ s.stack → t.strong o ≡ 0 → Happens what s t o
   ends : (class : ℕ) → s.phase o ≡ DelOpen class → HandedBack what → DelEnded s t o → Happens what s t o
 
 -- ---- of the stack
@@ -125,12 +125,12 @@ module _ (what : What) (s u : State) (x : ℕ) (a : Alike s u) where
       let l = last lo ph sp in
       let cs : (u.attends && not (eqb (found u x) 0)) ≡ (s.attends && not (eqb (found s x) 0)) = rw (a.attends, a.found x) refl in (
         λ e. record {
-          phases = point (Happens what s (del_opens x (found u x) (less x u))) x (asks l (sym cs ∙ e) (rw (same x, a.found x) refl) (ap (λ (k : List ℕ). x ∷ k) a.quiet.stack)) (λ y ne. goes (rw (ne_eqb y x ne) (a.quiet.phases y)));
+          phases = point (Happens what s (del_opens x (found u x) (less x u))) x (asks l (sym cs ∙ e) (rw (same x, a.found x) refl) (ap (λ (k : List ℕ). x ∷ k) a.quiet.stack) (rw (same x) refl)) (λ y ne. goes (rw (ne_eqb y x ne) (a.quiet.phases y)));
           stacks = pushes x (ap (λ (k : List ℕ). x ∷ k) a.quiet.stack);
           stills = λ o d n. let q = others ph o d n in record { phase = rw q.0 q.1.phase; round = q.1.round; giving = q.1.giving; places = q.1.places };
         },
         λ e. record {
-          phases = point (Happens what s (pushed x (clearing_begins x (less x u)))) x (clears l (sym cs ∙ e) (rw (same x) refl) (ap (λ (k : List ℕ). x ∷ k) a.quiet.stack)) (λ y ne. goes (rw (ne_eqb y x ne) (a.quiet.phases y)));
+          phases = point (Happens what s (pushed x (clearing_begins x (less x u)))) x (clears l (sym cs ∙ e) (rw (same x) refl) (ap (λ (k : List ℕ). x ∷ k) a.quiet.stack) (rw (same x) (now_spent (u.strong x - 1) (u.interned x) (rw (same x) at sp)).0)) (λ y ne. goes (rw (ne_eqb y x ne) (a.quiet.phases y)));
           stacks = pushes x (ap (λ (k : List ℕ). x ∷ k) a.quiet.stack);
           stills = λ o d n. let q = others ph o d n in record { phase = rw q.0 q.1.phase; round = q.1.round; giving = q.1.giving; places = q.1.places };
         },

@@ -63,8 +63,8 @@ module _ (st : Step) (ch : Changes st.what st.before st.after) where
       go (goes (inl e)) = inr (rw (← e) d)
       go (goes (inr c)) = inr (c.0.0, not_resting (st.before.phase o) c.0.1)
       go (comes a b) = absurd (both_ways (is_resting (st.after.phase o)) d.1 (rw b refl))
-      go (asks l e ph k) = inl ((rw l.rests refl, d), k)
-      go (clears l e ph k) = inl ((rw l.rests refl, d), k)
+      go (asks l e ph k n) = inl ((rw l.rests refl, d), k)
+      go (clears l e ph k n) = inl ((rw l.rests refl, d), k)
       go (ends class ph h e) = inr (rw ph (refl, refl))
 
   -- a death that starts is the newest

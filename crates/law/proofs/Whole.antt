@@ -21,6 +21,7 @@ use Rattle.law.proofs.Served.{Served, opening_story, every_served}
 lives_of : (st : Step) (h : List Step) → Living st h → Served st h → Lives st h
 lives_of st h l s = record {
   starts = l.one.starts;
+  started = l.one.started;
   del_opens = l.one.del_opens;
   del_ends = l.one.del_ends;
   clears = l.one.clears;

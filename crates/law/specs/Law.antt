@@ -41,6 +41,10 @@ pub record Still (s t : State) (o : ℕ) : Type 0 where
   pub giving : t.giving o ≡ s.giving o
   pub places : Cleared s o → t.places o ≡ s.places o
 
+-- an open del turn counts as a reference
+abbrev pub del_turn : Phase → ℕ
+del_turn p = bit (is_open p && is_live p)
+
 -- what is so of each step of a run, given the steps before it
 pub record Lives (st : Step) (h : List Step) : Type 0 where
   -- A death starts with the last reference to an object that is not interned. Its del turn opens exactly when a host
@@ -48,7 +52,9 @@ pub record Lives (st : Step) (h : List Step) : Type 0 where
   pub starts : (o : ℕ) → Dies st o → (st.before.strong o ≡ 1) × (st.before.interned o ≡ false) × MatchBool (st.before.attends && not (found st.before o == 0)) (OpensDel st o (found st.before o)) (Clears st o)
   -- and so opens every del turn
   pub del_opens : (o class : ℕ) → OpensDel st o class → Dies st o
-  -- it ends with its hand back: the object is kept if a reference or its mark is left, and else its clearing begins
+  -- when a death has started, the last reference has gone: the count is that of the del turn alone
+  pub started : (o : ℕ) → Dies st o → st.after.strong o ≡ del_turn (st.after.phase o)
+  -- a del turn ends with its hand back: the object is kept if a reference or its mark is left, and else its clearing begins
   pub del_ends : (o class : ℕ) → st.before.phase o ≡ DelOpen class → (st.after.phase o ≡ DelOpen class) ⊎ (HandedBack st.what × MatchBool (st.after.strong o == 0 && not (st.after.interned o)) (Clears st o) (Kept st o))
   -- clearing begins in these two ways only
   pub clears : (o : ℕ) → Clears st o → Dies st o ⊎ ((class : ℕ) × (st.before.phase o ≡ DelOpen class))
@@ -145,9 +151,6 @@ pub record HandBacksEnd (s : State) : Type 0 where
 -- all references to x: handles, places, what rounds and turns hold, and an open del turn
 abbrev pub named_by : State → ℕ → ℕ → ℕ
 named_by s x p = count x (s.places p) + count x (s.callback p ∷ []) + count x (s.held p) + count x (s.giving p)
-
-abbrev pub del_turn : Phase → ℕ
-del_turn p = bit (is_open p && is_live p)
 
 unfoldable pub references : State → ℕ → ℕ
 references s x = s.handles x + sum_to s.next (named_by s x) + del_turn (s.phase x)
