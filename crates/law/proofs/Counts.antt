@@ -10,6 +10,7 @@ use Rattle.definition.proofs.Sums.{same, count_other}
 use Rattle.law.specs.Events.{Live}
 use Rattle.law.specs.Law.{named_by, references, Counted}
 use Rattle.law.proofs.Invariant.{Falling, placed_by, lent_by, placed, lent, unfreed_sum, open_sum, Good, Inv, live_born, live_counted}
+use Rattle.law.proofs.Arguments.{Arguments}
 use Rattle.law.proofs.Moves.{lent_small}
 
 -- ---- a core that has just been opened
@@ -72,9 +73,9 @@ cold {p = (Freeing n)} i z = omega (arith, i)
 cold {p = Leaving} i z = omega (arith, i)
 
 -- counts are references, and more
-pub counted_at : (s : State) → Inv s [] → Counted s
+pub counted_at : (s : State) → Inv s [] → Arguments s → Counted s
 unfolding references placed lent open_sum unfreed_sum
-counted_at s i = record { counts = counts; handles = handles; live = live; width = width; unheld = λ x px. cold (i.good x px); turns = i.frame.turns; number = i.frame.unfreed; stacked = λ o po. (i.good o po).stacked }
+counted_at s i a = record { counts = counts; handles = handles; live = live; width = width; unheld = λ x px. cold (i.good x px); turns = i.frame.turns; number = i.frame.unfreed; stacked = λ o po. (i.good o po).stacked; calling = a }
   where
     counts : (x : ℕ) → 0 < x → s.strong x ≡ references s x
     counts x px = omega (arith, i.good x px, sum_plus s.next (placed_by s x) (lent_by s x) (named_by s x) (λ p. omega arith))

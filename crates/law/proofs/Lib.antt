@@ -14,6 +14,7 @@ pub mod Others
 pub mod Counts
 pub mod Listed
 pub mod Referents
+pub mod Arguments
 pub mod Moments
 pub mod WithHistory
 pub mod Histories

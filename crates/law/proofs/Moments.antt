@@ -15,6 +15,7 @@ use Rattle.law.proofs.Shapes.{Shaped, advance_shaped, effect_shaped, opening_sha
 use Rattle.law.proofs.Counts.{opening_inv}
 use Rattle.law.proofs.Others.{effect_inv_other, after_rests}
 use Rattle.law.proofs.Listed.{Listed, advance_listed}
+use Rattle.law.proofs.Arguments.{Arguments, advance_arguments, effect_arguments, opening_arguments}
 use Rattle.law.proofs.Referents.{effect_listed, opening_listed}
 
 -- what an accepted call changes keeps the invariant
@@ -38,6 +39,7 @@ pub record Always (s : State) : Type 0 where
   pub inv : Inv s []
   pub shaped : Shaped s
   pub listed : Listed s
+  pub arguments : Arguments s
 
 -- between two calls
 pub record Between (s : State) : Type 0 where
@@ -46,7 +48,7 @@ pub record Between (s : State) : Type 0 where
 
 -- a step of a death keeps it
 pub advance_always : (s : State) → Always s → Always (advance s)
-advance_always s a = record { inv = advance_inv s a.inv; shaped = advance_shaped s a.shaped; listed = advance_listed s a.inv a.listed }
+advance_always s a = record { inv = advance_inv s a.inv; shaped = advance_shaped s a.shaped; listed = advance_listed s a.inv a.listed; arguments = advance_arguments s a.arguments }
 
 -- and so do all that follow
 settle_always : (n : ℕ) (s : State) → Always s → Always (settle n s)
@@ -62,7 +64,7 @@ after_always (DeathsFollow left s) a = settle_always (work s) s a
 
 -- each call's own change
 pub change_always : (c : Call) (s : State) → Between s → Granted c s → Always (own_change (outcome c s))
-change_always c s b g = let a = b.always in record { inv = effect c s a.inv a.shaped b.rests g; shaped = effect_shaped c s a.shaped; listed = effect_listed c s a.inv a.listed }
+change_always c s b g = let a = b.always in record { inv = effect c s a.inv a.shaped b.rests g; shaped = effect_shaped c s a.shaped; listed = effect_listed c s a.inv a.listed; arguments = effect_arguments c s a.arguments }
 
 -- and then the next call starts where it may
 pub call_between : (c : Call) (s : State) → Between s → Granted c s → Between (after (outcome c s))
@@ -70,7 +72,7 @@ call_between c s b g = let a = change_always c s b g in record { always = after_
 
 -- a core opens so
 pub opening_between : (capacity first : ℕ) (classes : List Class) → can_open capacity first classes ≡ true → Between (opening capacity first classes)
-opening_between capacity first classes e = record { always = record { inv = opening_inv capacity first classes e; shaped = opening_shaped capacity first classes; listed = opening_listed capacity first classes }; rests = refl }
+opening_between capacity first classes e = record { always = record { inv = opening_inv capacity first classes e; shaped = opening_shaped capacity first classes; listed = opening_listed capacity first classes; arguments = opening_arguments capacity first classes }; rests = refl }
 
 -- any call, refused or not
 pub each_between : (c : Call) (s : State) → Between s → Between (call c s)

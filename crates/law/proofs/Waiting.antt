@@ -92,6 +92,7 @@ module _ (what : What) (back : HandedBack what) (s : State) (o : ℕ) (below : L
   handed_back_ends (Freeing k) ph = λ y c w e. inl e
   handed_back_ends Leaving ph = λ y c w e. inl e
 
+-- and where nothing is dying, none ends
 newest_back_ends : (what : What) → HandedBack what → (s : State) (l : List ℕ) → CallEnds what s (newest_back l s)
 newest_back_ends what back s [] = λ y c w e. inl e
 newest_back_ends what back s (o ∷ below) = handed_back_ends what back s o below (s.phase o) refl

@@ -168,6 +168,8 @@ pub record Counted (s : State) : Type 0 where
   pub number : s.unfreed ≡ sum_to s.next (λ o. bit (is_unfreed (s.phase o)))
   -- the stack is of the dying, each once
   pub stacked : (o : ℕ) → 0 < o → count o s.stack ≡ bit (is_unfreed (s.phase o) && not (is_resting (s.phase o)))
+  -- while a callback turn is open, the death holds its argument, its callback and the round's reference
+  pub calling : (o c w : ℕ) → s.phase o ≡ Calling c w → s.giving o ≡ w ∷ c ∷ w ∷ []
 
 -- what the tallies say of the state that a run has come to
 pub record Tallied (es : List Exchange) (s : State) : Type 0 where
