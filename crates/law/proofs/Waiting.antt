@@ -72,7 +72,7 @@ module _ (what : What) (back : HandedBack what) (s : State) (o : ℕ) (below : L
   del_ends_stays : (class : ℕ) → s.phase o ≡ DelOpen class → (u : State) → u.phase ≡ s.phase → Stays s (del_ends o below u)
   del_ends_stays class ph u e =
       let f : (p : Phase) (y c w : ℕ) → s.phase y ≡ Calling c w → put u.phase o p y ≡ Calling c w =
-          λ p y c w d. rw e (elsewhere s o p (λ c w d. both_ways (is_live (s.phase o)) (rw d refl) (rw ph refl)) y c w d) in
+      λ p y c w d. rw e (elsewhere s o p (λ c w d. both_ways (is_live (s.phase o)) (rw d refl) (rw ph refl)) y c w d) in
       cond_both (spent u o) (clearing_begins o u) (with_stack below (with_phase o Resting u)) (Stays s) (λ q. f Taking) (λ q. f Resting)
 
   -- the newest death's turn ends, if it is a callback's
