@@ -15,8 +15,8 @@ pub fn nothing_is_lost_or_kept()
     ensures { OfEveryRun NothingLostOrKept }
 {}
 
-/// How objects live and die: when deaths start and del turns open, what a del keeps, that nothing cleared is ever upgraded, which
-/// references lose their callbacks and get turns and in which order, and that deaths nest.
+/// How objects live and die: when deaths start and turns open and end, what a del keeps, that nothing cleared is ever upgraded,
+/// which references lose their callbacks and get turns and in which order, what goes before a free, and that deaths nest.
 pub fn objects_live_and_die_in_order()
     ensures { OfEveryRun (λ es s. Every Lives (history es)) }
 {}
@@ -32,8 +32,8 @@ pub fn no_work_is_left()
     ensures { OfEveryRun (λ es s. rests s ≡ true) }
 {}
 
-/// After every step an object's count is the number of its references, the host's handles among them, and a live object has
-/// one or is interned.
+/// After every step an object's count is the number of its references, the host's handles among them; what is live has one or is
+/// interned, and what is not has none. As many turns are open as deaths wait for one, and the stack is of the dying.
 pub fn counts_are_references()
     ensures { OfEveryRun (λ es s. Every (λ step before. Counted step.after) (history es)) }
 {}
