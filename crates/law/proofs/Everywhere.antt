@@ -19,7 +19,7 @@ use Rattle.law.proofs.Nesting.{OrderedStack, order_kept, nested}
 pub made_changes : {K : State → Type 0} (st : Step) → Made K st → Changes st.what st.before st.after
 made_changes _ (own c s i k g j) = own_changes c s i g
 made_changes _ (refused c fault s i k e) = quiet (Refused c fault) s s (quiet_self s)
-made_changes _ (small s i r) = small_changes s
+made_changes _ (small s i r) = small_changes s i
 
 -- fields of the record Lives that rest on no callback
 pub record Living (st : Step) (h : List Step) : Type 0 where

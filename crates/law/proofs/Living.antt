@@ -94,7 +94,7 @@ module _ (what : What) (s u : State) (x : ℕ) (a : Alike s u) where
   less_quiet = record {
     phases = a.quiet.phases;
     stack = a.quiet.stack;
-    stills = λ o d n. let q = a.quiet.stills o d n in record { phase = q.phase; round = q.round; giving = q.giving; places = q.places };
+    stills = λ o d n. let q = a.quiet.stills o d n in record { phase = q.phase; round = q.round; giving = q.giving; places = q.places; callback = q.callback };
   }
 
   -- where giving up a reference starts a death, it was the last, and no mark was there
@@ -127,11 +127,11 @@ module _ (what : What) (s u : State) (x : ℕ) (a : Alike s u) where
         λ e. record {
           phases = point (Happens what s (del_opens x (found u x) (less x u))) x (asks l (sym cs ∙ e) (rw (same x, a.found x) refl) (ap (λ (k : List ℕ). x ∷ k) a.quiet.stack) (rw (same x) refl)) (λ y ne. goes (rw (ne_eqb y x ne) (a.quiet.phases y)));
           stacks = pushes x (ap (λ (k : List ℕ). x ∷ k) a.quiet.stack);
-          stills = λ o d n. let q = others ph o d n in record { phase = rw q.0 q.1.phase; round = q.1.round; giving = q.1.giving; places = q.1.places };
+          stills = λ o d n. let q = others ph o d n in record { phase = rw q.0 q.1.phase; round = q.1.round; giving = q.1.giving; places = q.1.places; callback = q.1.callback };
         },
         λ e. record {
           phases = point (Happens what s (pushed x (clearing_begins x (less x u)))) x (clears l (sym cs ∙ e) (rw (same x) refl) (ap (λ (k : List ℕ). x ∷ k) a.quiet.stack) (rw (same x) (now_spent (u.strong x - 1) (u.interned x) (rw (same x) at sp)).0)) (λ y ne. goes (rw (ne_eqb y x ne) (a.quiet.phases y)));
           stacks = pushes x (ap (λ (k : List ℕ). x ∷ k) a.quiet.stack);
-          stills = λ o d n. let q = others ph o d n in record { phase = rw q.0 q.1.phase; round = q.1.round; giving = q.1.giving; places = q.1.places };
+          stills = λ o d n. let q = others ph o d n in record { phase = rw q.0 q.1.phase; round = q.1.round; giving = q.1.giving; places = q.1.places; callback = q.1.callback };
         },
       ))

@@ -39,7 +39,9 @@ pub record Still (s t : State) (o : ℕ) : Type 0 where
   pub phase : t.phase o ≡ s.phase o
   pub round : t.held o ≡ s.held o
   pub giving : t.giving o ≡ s.giving o
+  -- and once its clearing has begun, its places and its callback stay
   pub places : Cleared s o → t.places o ≡ s.places o
+  pub callback : Cleared s o → t.callback o ≡ s.callback o
 
 -- an open del turn counts as a reference
 abbrev pub del_turn : Phase → ℕ
