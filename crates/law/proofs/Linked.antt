@@ -144,6 +144,10 @@ module _ (st : Step) (h : List Step) (mo : Moment st) (i : Inv st.before []) (j 
       by (plain q e) = absurd (omega (arith, stage_below s i w (omega (arith, l))))
       by (new q a b e) = absurd (omega (arith, stage_below s i w (omega (arith, l))))
 
+  -- so the round of a death that drains gets shorter
+  pub shorter : (o w c : ℕ) → Drained st o w c → length (t.held o) < length (s.held o)
+  shorter o w c d = rw (drained_served o w c d).round (omega arith)
+
   -- a reference loses its callback in its own death, or alive, to the death of its referent
   pub loses : (w c : ℕ) → Loses st w c → Cleared s w ⊎ ((o : ℕ) × Drained st o w c)
   loses w c d = by (moved.turned w)

@@ -12,15 +12,16 @@ use Rattle.law.proofs.Moments.{Between, each_between, change_always}
 use Rattle.law.proofs.WithHistory.{Made, own, refused, small, made_before, made_after, every_step}
 use Rattle.law.proofs.Told.{Told, told_kept, kept, upgrades}
 use Rattle.law.proofs.Lists.{Lists}
-use Rattle.law.proofs.Linked.{Linked, loses, call_opens, drained, takes, rounds_over, freed, frees}
+use Rattle.law.proofs.Linked.{Linked, loses, call_opens, drained, shorter, takes, rounds_over, freed, frees}
 use Rattle.law.proofs.Ways.{linked_after}
 
--- of each step, given the steps before it: nine fields of what lives come to
+-- of each step, given the steps before it: nine fields of what lives come to, and that a round that is drained gets shorter
 pub record Served (st : Step) (h : List Step) : Type 0 where
   pub kept : (o : ℕ) → Kept st o → Never (λ e. (c : ℕ) × (w : ℕ) × OpensCall e o c w) h
   pub upgrades : (w : ℕ) (r : Reply) → st.what ≡ Accepted (Upgrade w) r → 0 < r.number → Live st.before r.number × Never (λ e. Clears e r.number) h
   pub loses : (w c : ℕ) → Loses st w c → Cleared st.before w ⊎ ((o : ℕ) × Drained st o w c)
   pub drained : (o w c : ℕ) → Drained st o w c → Watched h o w c × ((v d : ℕ) → Once (λ e. Drained e o v d) h → w < v) × MatchBool st.before.attends (OpensCall st o c w) (NoTurnOf st.after o)
+  pub shorter : (o w c : ℕ) → Drained st o w c → length (st.after.held o) < length (st.before.held o)
   pub call_opens : (o c w : ℕ) → OpensCall st o c w → Drained st o w c
   pub takes : (o w : ℕ) → Takes st o w → (length (st.after.held o) ≤ 16) × ((st.before.phase o ≡ Taking) ⊎ (st.before.held o ≡ []))
   pub rounds_over : (o w c : ℕ) → Emptying st.before o → 0 < c → Watched h o w c → Once (λ e. Drained e o w c) h ⊎ (Never (λ e. Takes e o w) h × (Live st.before w → ⊥))
@@ -35,13 +36,14 @@ Story s h = Told s h × Linked s h
 pub story_kept : (st : Step) (h : List Step) → Moment st → Inv st.before [] → Inv st.after [] → Story st.before h → Story st.after (st ∷ h)
 story_kept st h m i j k = (told_kept st h m i j k.0, linked_after st h m i j k.0 k.1)
 
--- and the nine fields follow from it
+-- and these fields follow from it
 pub story_served : (st : Step) (h : List Step) → Moment st → Inv st.before [] → Inv st.after [] → Story st.before h → Served st h
 story_served st h m i j k = record {
   kept = kept st h m k.0;
   upgrades = upgrades st h m k.0;
   loses = loses st h m i j k.0 k.1;
   drained = drained st h m i j k.0 k.1;
+  shorter = shorter st h m i j k.0 k.1;
   call_opens = call_opens st h m i j k.0 k.1;
   takes = takes st h m i j k.0 k.1;
   rounds_over = rounds_over st h m i j k.0 k.1;

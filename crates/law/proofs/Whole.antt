@@ -1,5 +1,5 @@
 -- The whole law, over every run.
-use Rattle.std.proofs.Common.{◌≡◌, ℕ, true, List, [], ◌∷◌}
+use Rattle.std.proofs.Common.{◌≡◌, ℕ, true, List, [], ◌∷◌, length, ap, arith}
 use Rattle.classes.specs.Rows.{Class}
 use Rattle.definition.specs.Calls.{Call}
 use Rattle.definition.specs.Opening.{can_open, opening}
@@ -18,6 +18,7 @@ use Rattle.law.proofs.Everywhere.{Living}
 use Rattle.law.proofs.Lived.{living}
 use Rattle.law.proofs.Served.{Served, opening_story, every_served}
 
+-- all fields of a step; a death whose round stays has drained nobody
 lives_of : (st : Step) (h : List Step) → Living st h → Served st h → Lives st h
 lives_of st h l s = record {
   starts = l.one.starts;
@@ -35,7 +36,7 @@ lives_of st h l s = record {
   call_ends = l.call_ends;
   freed = s.freed;
   frees = s.frees;
-  nested = l.nested;
+  nested = λ o p ne dd dp n. let still = l.nested o p ne dd dp n in (still, λ w c d. omega (arith, ap length still.round, s.shorter o w c d));
 }
 
 every_both : (h : List Step) → Every Living h → Every Served h → Every Lives h

@@ -83,8 +83,9 @@ pub record Lives (st : Step) (h : List Step) : Type 0 where
   pub freed : (o : ℕ) → Freed st o → (w c : ℕ) → 0 < c → Watched h o w c → Once (λ e. Drained e o w c) h ⊎ (Never (λ e. Takes e o w) h × (Live st.before w → ⊥))
   -- an object is freed only by its own death, once its places are being emptied
   pub frees : (o : ℕ) → Freed st o → Emptying st.before o
-  -- deaths nest: until a newer death has ended, by a free or a keeping, an older one takes no step
-  pub nested : (o p : ℕ) → (o ≢ p) → Dying st.before o → Dying st.before p → Newer h p o → Still st.before st.after o
+  -- deaths nest: until a newer death has ended, by a free or a keeping, an older one takes no step, and no reference
+  -- loses its callback to it
+  pub nested : (o p : ℕ) → (o ≢ p) → Dying st.before o → Dying st.before p → Newer h p o → Still st.before st.after o × ((w c : ℕ) → Drained st o w c → ⊥)
 
 -- ---- turns and frees are those of the replies
 
