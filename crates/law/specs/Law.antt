@@ -71,13 +71,13 @@ pub record Lives (st : Step) (h : List Step) : Type 0 where
   pub drained : (o w c : ℕ) → Drained st o w c → Watched h o w c × ((v d : ℕ) → Once (λ e. Drained e o v d) h → w < v) × MatchBool st.before.attends (OpensCall st o c w) (NoTurnOf st.after o)
   -- and so opens every callback turn
   pub call_opens : (o c w : ℕ) → OpensCall st o c w → Drained st o w c
+  -- a callback turn ends with its hand back, and not before
+  pub call_ends : (o c w : ℕ) → st.before.phase o ≡ Calling c w → (st.after.phase o ≡ Calling c w) ⊎ (HandedBack st.what × NoTurnOf st.after o)
   -- a round holds 16 at most, and takes only until it begins to drain
   pub takes : (o w : ℕ) → Takes st o w → (length (st.after.held o) ≤ 16) × ((st.before.phase o ≡ Taking) ⊎ (st.before.held o ≡ []))
   -- When an object's places are being emptied, each reference that had a callback when clearing began has lost it to this
   -- death, or its own clearing had begun and no round took it
   pub rounds_over : (o w c : ℕ) → Emptying st.before o → 0 < c → Watched h o w c → Once (λ e. Drained e o w c) h ⊎ (Never (λ e. Takes e o w) h × (Live st.before w → ⊥))
-  -- a callback turn ends with its hand back, and not before
-  pub call_ends : (o c w : ℕ) → st.before.phase o ≡ Calling c w → (st.after.phase o ≡ Calling c w) ⊎ (HandedBack st.what × NoTurnOf st.after o)
   -- When an object is freed, each reference that had a callback when clearing began has lost it to this death, or its own
   -- clearing has begun and no round took it
   pub freed : (o : ℕ) → Freed st o → (w c : ℕ) → 0 < c → Watched h o w c → Once (λ e. Drained e o w c) h ⊎ (Never (λ e. Takes e o w) h × (Live st.before w → ⊥))
