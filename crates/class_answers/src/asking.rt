@@ -5,6 +5,7 @@ use classes::{ClassTable, Entries};
 use refusal::Fault;
 
 /// A question to a class table, or a set del.
+// An enum and no closure: one list is put to tables of several types, and the definition speaks of it.
 #[derive(Clone, Copy, PartialEq, Eq, Debug)]
 pub enum Request {
     Last,

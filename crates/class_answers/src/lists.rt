@@ -14,6 +14,7 @@ pub fn ask_all<T: ClassTable>(
     ensures answers { IfOk result (λ answers. answers.items ≡ answers_of (T.rows table.old) requests.now) }
     ensures after { OnOk result (T.rows table.new ≡ rows_after_all (T.rows table.old) requests.now) }
 {
+    // A loop, here and below: after a chain nothing would be known of the table that its closure changes.
     let mut answers = Vec::new(heap);
     for request in requests {
         answers.push(ask(table, *request))?;

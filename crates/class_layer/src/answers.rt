@@ -2,6 +2,7 @@ ghost use Rattle.std.specs.Prelude.{◌≡◌};
 ghost use Rattle.class_layer.specs.Layer.{looked_up, with_answer, no_answers};
 
 /// What find del answered for a class. A free place has 0 for both, which is right too: 0 is no class and has no del.
+// So no `Option`: a free place answers rightly.
 #[derive(Clone, Copy, Debug)]
 pub struct Answer {
     class: u32,

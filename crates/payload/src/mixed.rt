@@ -9,6 +9,7 @@ impl<A: Payload, B: Payload> Payload for Mixed<A, B> {
 
     ghost proper = { mixed_proper A.meaning B.meaning A.proper B.proper };
 
+    // Passed on one by one: Rust has no shorter form, and the trait does not know what is held.
     fn kind(&self) -> u32 {
         match self {
             Mixed::Left(a) => a.kind(),
