@@ -10,6 +10,9 @@ use Rattle.class_layer.specs.declared.answers.Answers.{Answers}
 abbrev pub looked_up : List Answer → ℕ → Option ℕ
 looked_up kept c = option_map (λ a. a.del) (find (λ a. a.class == c) kept)
 
+abbrev pub answer_in : Answers → ℕ → Option ℕ
+answer_in a c = looked_up a.kept c
+
 -- one more answer, and none
 abbrev pub with_answer : Answers → ℕ → ℕ → Answers
 with_answer a c d = record { kept = slice_set a.kept (a.next % 16) (record { class = c; del = d }); next = (a.next % 16 + 1) % 16 }
@@ -23,7 +26,7 @@ after_question (Some d) a c r = a
 after_question None a c r = with_answer a c r
 
 abbrev pub after_find : Answers → ℕ → ℕ → Answers
-after_find a c r = after_question (looked_up a.kept c) a c r
+after_find a c r = after_question (answer_in a c) a c r
 
 -- each answer that is kept is find del's over these rows
 abbrev pub Right : List Class → List Answer → Type 0

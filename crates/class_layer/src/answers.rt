@@ -1,5 +1,5 @@
 ghost use Rattle.std.specs.Prelude.{◌≡◌};
-ghost use Rattle.class_layer.specs.Layer.{looked_up, with_answer, no_answers};
+ghost use Rattle.class_layer.specs.Layer.{answer_in, with_answer, no_answers};
 
 /// What find del answered for a class. A free place has 0 for both, which is right too: 0 is no class and has no del.
 // So no `Option`: a free place answers rightly.
@@ -31,7 +31,7 @@ impl Answers {
 
     /// The answer that is kept for a class.
     pub fn look_up(&self, class: u32) -> Option<u32>
-        ensures { result ≡ looked_up self.now.kept class }
+        ensures { result ≡ answer_in self.now class }
     {
         self.kept
             .iter()

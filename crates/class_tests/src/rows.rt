@@ -1,7 +1,7 @@
 use class_tables::{Ancestors, ClassRow};
 
 /// The row of plain weak references.
-pub fn weak() -> ClassRow {
+pub(crate) fn weak() -> ClassRow {
     ClassRow {
         weak: true,
         immutable: true,
@@ -10,7 +10,7 @@ pub fn weak() -> ClassRow {
 }
 
 /// A row with these ancestors, and nothing else.
-pub fn with_ancestors(ancestors: &[u32]) -> ClassRow {
+pub(crate) fn with_ancestors(ancestors: &[u32]) -> ClassRow {
     ClassRow {
         ancestors: Ancestors::new(ancestors),
         ..ClassRow::default()
@@ -18,7 +18,7 @@ pub fn with_ancestors(ancestors: &[u32]) -> ClassRow {
 }
 
 /// A row with a del of its own, and nothing else.
-pub fn with_del() -> ClassRow {
+pub(crate) fn with_del() -> ClassRow {
     ClassRow {
         del: true,
         ..ClassRow::default()
