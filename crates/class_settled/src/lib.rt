@@ -2,5 +2,6 @@
 #![tactic(auto)]
 
 mod settled;
+mod table;
 
-pub use settled::SettledTable;
+pub use table::SettledTable;

@@ -1,36 +1,18 @@
-ghost use Rattle.std.specs.Prelude.{◌≡◌, ◌≤◌, length};
-ghost use Rattle.class_tables.specs.Kept.{Builds};
+ghost use Rattle.std.specs.Prelude.{◌≡◌, ◌≤◌, length, MatchResult};
+ghost use Rattle.classes.specs.Rows.{find_del, set_del, after_set_del};
+ghost use Rattle.class_tables.specs.Kept.{rows_of, Builds};
 ghost use Rattle.class_settled.specs.Answers.{Settled};
+ghost use Rattle.class_settled.specs.Table.{settled_rows};
 
+use crate::table::SettledTable;
 use class_tables::{ClassRow, SearchingTable};
 use classes::{ClassTable, Entries};
 use refusal::Fault;
 use std::array;
-use std::marker::Model;
-
-/// Up to 64 rows, with the answer of find del for every number that a row can have.
-// The answers stand beside the rows and not in them: the rows are another table's own.
-#[derive(Debug, Drop)]
-pub struct SettledTable {
-    rows: SearchingTable,
-    answers: [u32; 64],
-}
-
-impl Model for SettledTable {
-    ghost use Rattle.std.specs.Prelude.{◌≤◌, List, length};
-    ghost use Rattle.classes.specs.Rows.{Class};
-    ghost use Rattle.class_settled.specs.Answers.{Settled};
-
-    ghost Value = { List Class };
-
-    ghost view = { λ t. t.rows };
-
-    ghost invariant = { λ t. (length t.rows ≤ 64) × Settled t.rows t.answers };
-}
 
 /// Works out all answers.
 fn settle(rows: &SearchingTable) -> [u32; 64]
-    ensures { Settled rows.now result }
+    ensures { Settled (rows_of rows.now) result }
 {
     array::from_fn(|i| rows.del_of(i as u32 + 1))
 }
@@ -38,7 +20,7 @@ fn settle(rows: &SearchingTable) -> [u32; 64]
 impl SettledTable {
     /// Refuses more than 64 rows.
     pub fn new(given: &[ClassRow]) -> Result<SettledTable, Fault>
-        ensures { Builds given.now result }
+        ensures { Builds settled_rows given.now result }
     {
         let rows = SearchingTable::new(given)?;
         let answers = settle(&rows);
@@ -47,11 +29,11 @@ impl SettledTable {
 }
 
 impl ClassTable for SettledTable {
-    ghost rows = { λ t. t };
+    ghost rows = { settled_rows };
 
     // `last`, `entries` and `ancestor` are passed on one by one: Rust has no shorter form for it.
     fn last(&self) -> u32
-        ensures last { result ≡ length self.now }
+        ensures last { result ≡ length (settled_rows self.now) }
         ensures few { result ≤ 64 }
     {
         self.rows.last()
@@ -65,15 +47,22 @@ impl ClassTable for SettledTable {
         self.rows.ancestor(class, position)
     }
 
-    fn find_del(&mut self, class: u32) -> u32 {
-        class
-            .checked_sub(1)
-            .and_then(|place| self.answers.get(place as usize))
+    fn find_del(&mut self, class: u32) -> u32
+        ensures value { result ≡ find_del (settled_rows self.old) class }
+        ensures same { self.new ≡ self.old }
+    {
+        // Class 0 wraps to a place that there is not.
+        self.answers
+            .get(class.wrapping_sub(1) as usize)
             .copied()
             .unwrap_or(0)
     }
 
-    fn set_del(&mut self, class: u32, del: bool) -> Result<(), Fault> {
+    fn set_del(&mut self, class: u32, del: bool) -> Result<(), Fault>
+        ensures reply { result ≡ set_del (settled_rows self.old) class }
+        ensures after { settled_rows self.new ≡ after_set_del (settled_rows self.old) class del }
+        ensures refused { MatchResult result (λ _. Unit {0}) (λ _. self.new ≡ self.old) }
+    {
         self.rows.set_del(class, del)?;
         self.answers = settle(&self.rows);
         Ok(())

@@ -1,3 +1,2 @@
-mod Eights
 mod Searching
 mod Setting

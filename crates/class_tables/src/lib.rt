@@ -4,7 +4,6 @@
 mod ancestors;
 mod row;
 mod table;
+mod types;
 
-pub use ancestors::Ancestors;
-pub use row::ClassRow;
-pub use table::SearchingTable;
+pub use types::{Ancestors, ClassRow, SearchingTable};

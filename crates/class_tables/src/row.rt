@@ -1,21 +1,7 @@
 ghost use Rattle.std.specs.Prelude.{◌≡◌};
 
-use crate::ancestors::Ancestors;
+use crate::types::ClassRow;
 use classes::Entries;
-
-/// A row of a class table.
-#[derive(Clone, Copy, Debug, Default, PartialEq, Eq)]
-pub struct ClassRow {
-    /// How many slots objects of the class have.
-    pub members: u32,
-    /// Whether they have a dictionary.
-    pub dictionary: bool,
-    pub weak: bool,
-    pub immutable: bool,
-    /// Whether the class has a del of its own.
-    pub del: bool,
-    pub ancestors: Ancestors,
-}
 
 impl From<&ClassRow> for Entries {
     ghost use Rattle.classes.specs.Entries.{entries_of};

@@ -1,52 +1,48 @@
-ghost use Rattle.std.specs.Prelude.{◌≡◌, ◌≤◌, length, MatchOption};
-ghost use Rattle.classes.specs.Rows.{find_del};
-ghost use Rattle.class_tables.specs.Kept.{class_of, Has, HasNone, Builds};
+ghost use Rattle.std.specs.Prelude.{◌≡◌, ◌≤◌, length, map, MatchOption, MatchResult};
+ghost use Rattle.classes.specs.Rows.{find_del, set_del, after_set_del};
+ghost use Rattle.class_tables.specs.Kept.{class_of, rows_of, Has, HasNone, Builds};
 
-use crate::row::ClassRow;
-use arrayvec::ArrayVec;
+use crate::types::{ClassRow, SearchingTable};
 use classes::{ClassTable, Entries};
 use refusal::{Fault, Refusal};
-use std::marker::Model;
-
-/// Up to 64 rows.
-#[derive(Debug, Drop)]
-pub struct SearchingTable {
-    rows: ArrayVec<ClassRow, 64>,
-}
-
-impl Model for SearchingTable {
-    ghost use Rattle.std.specs.Prelude.{List, map};
-    ghost use Rattle.classes.specs.Rows.{Class};
-
-    ghost Value = { List Class };
-
-    ghost use Rattle.class_tables.specs.Kept.{class_of};
-
-    ghost view = { λ t. map class_of t.rows.items };
-}
 
 impl SearchingTable {
     /// Refuses more than 64 rows.
     pub fn new(given: &[ClassRow]) -> Result<SearchingTable, Fault>
-        ensures { Builds given.now result }
+        ensures { Builds rows_of given.now result }
     {
-        let rows = ArrayVec::try_from(given).map_err(|_| Fault {
-            refusal: Refusal::BadTable,
-            argument: 0,
-        })?;
-        Ok(SearchingTable { rows })
+        if given.len() > 64 {
+            return Err(Fault {
+                refusal: Refusal::BadTable,
+                argument: 0,
+            });
+        }
+        let mut rows = [ClassRow::default(); 64];
+        rows[..given.len()].copy_from_slice(given);
+        Ok(SearchingTable {
+            rows,
+            last: given.len() as u32,
+        })
+    }
+
+    fn rows(&self) -> &[ClassRow]
+        ensures { map class_of result.now ≡ rows_of self.now }
+    {
+        &self.rows[..self.last as usize]
     }
 
     fn row(&self, class: u32) -> Option<&ClassRow>
-        ensures { MatchOption result (HasNone self.now class) (λ row. Has self.now class (class_of row.now)) }
+        ensures { MatchOption result (HasNone (rows_of self.now) class) (λ row. Has (rows_of self.now) class (class_of row.now)) }
     {
-        let place = class.checked_sub(1)?;
-        self.rows.get(place as usize)
+        if class == 0 || class > self.last {
+            return None;
+        }
+        self.rows().get(class as usize - 1)
     }
 
     /// Finds the class whose del objects of a class run, and changes nothing.
     pub fn del_of(&self, class: u32) -> u32
-        ensures { result ≡ find_del self.now class }
+        ensures { result ≡ find_del (rows_of self.now) class }
     {
         let Some(row) = self.row(class) else {
             return 0;
@@ -64,13 +60,13 @@ impl SearchingTable {
 }
 
 impl ClassTable for SearchingTable {
-    ghost rows = { λ t. t };
+    ghost rows = { rows_of };
 
     fn last(&self) -> u32
-        ensures last { result ≡ length self.now }
+        ensures last { result ≡ length (rows_of self.now) }
         ensures few { result ≤ 64 }
     {
-        self.rows.len() as u32
+        self.last
     }
 
     fn entries(&self, class: u32) -> Entries {
@@ -81,15 +77,24 @@ impl ClassTable for SearchingTable {
         self.row(class).map_or(0, |row| row.ancestors.at(position))
     }
 
-    fn find_del(&mut self, class: u32) -> u32 {
+    fn find_del(&mut self, class: u32) -> u32
+        ensures value { result ≡ find_del (rows_of self.old) class }
+        ensures same { self.new ≡ self.old }
+    {
         self.del_of(class)
     }
 
-    fn set_del(&mut self, class: u32, del: bool) -> Result<(), Fault> {
-        let row = self.row(class).ok_or(Fault {
-            refusal: Refusal::NoClass,
-            argument: 1,
-        })?;
+    fn set_del(&mut self, class: u32, del: bool) -> Result<(), Fault>
+        ensures reply { result ≡ set_del (rows_of self.old) class }
+        ensures after { rows_of self.new ≡ after_set_del (rows_of self.old) class del }
+        ensures refused { MatchResult result (λ _. Unit {0}) (λ _. self.new ≡ self.old) }
+    {
+        let Some(row) = self.row(class) else {
+            return Err(Fault {
+                refusal: Refusal::NoClass,
+                argument: 1,
+            });
+        };
         if row.immutable {
             return Err(Fault {
                 refusal: Refusal::FixedClass,
