@@ -1,6 +1,6 @@
 -- A cut at the first separator, or where none stands.
 use Rattle.std.proofs.Common.{◌≡◌, ℕ, zero, suc, ◌+◌, ◌-◌, ◌<◌, ◌≤◌, Bool, true, false, ◌==◌, ◌≢◌, List, [], ◌∷◌, length, get_or, take, drop, Some, None, position, refl, ap, add-one, arith}
-use Rattle.std.proofs.lemmas.List.{take_rest}
+use Rattle.std.proofs.lemmas.List.{at_drop_all, at_drop_more, take_rest}
 use Rattle.std.proofs.lemmas.List.Quantifiers.{position-Some}
 use Rattle.std.proofs.lemmas.Bool.{eqb-false}
 use Rattle.std.specs.List.{position_or_len}
@@ -12,6 +12,19 @@ use Rattle.list_words.specs.Pieces.{joined, pieces, Without}
 module _ (s : ℕ) where
   abbrev is : ℕ → Bool
   is b = b == s
+
+  -- where the first one is, told of what lies from the i-th byte on
+  abbrev pub IsPast : List ℕ → ℕ → Type 0
+  IsPast bs i = position_or_len is bs ≡ i + position_or_len is (drop i bs)
+
+  pub here : (bs : List ℕ) (i : ℕ) → IsPast bs i → i < length bs → get_or bs i 0 ≡ s → position is bs ≡ Some i
+  here bs i past h e = let step = at_drop_more (position_or_len is) bs i 0 h in grind (arith, common_steps)
+
+  pub on : (bs : List ℕ) (i : ℕ) → IsPast bs i → i < length bs → get_or bs i 0 ≢ s → IsPast bs (i + 1)
+  on bs i past h ne = let step = at_drop_more (position_or_len is) bs i 0 h in grind (arith, common_steps)
+
+  pub nowhere : (bs : List ℕ) (i : ℕ) → IsPast bs i → length bs ≤ i → position is bs ≡ None
+  nowhere bs i past h = let rest = at_drop_all (position_or_len is) bs i h in grind (arith, common_steps)
 
   found : (last : List (List ℕ)) (bs : List ℕ) (i : ℕ) → i < length bs → is (get_or bs i 0) ≡ true → ((k : ℕ) → k < i → is (get_or bs k 0) ≡ false) → pieces s last bs ≡ take i bs ∷ pieces s last (drop (suc i) bs)
   found last [] i h e before = absurd (omega arith)

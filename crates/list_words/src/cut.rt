@@ -2,10 +2,16 @@ ghost use Rattle.std.specs.Prelude.{◌≡◌, ◌≤◌, length, position, ◌=
 ghost use Rattle.list_words.specs.Pieces.{Cut};
 
 /// Where the first `separator` stands.
+// No `position` of the iterator: over long words it takes half as long again.
 fn find(bytes: &[u8], separator: u8) -> Option<usize>
     ensures { result ≡ position (λ b. b == separator) bytes.now }
 {
-    bytes.iter().position(|b| *b == separator)
+    for (place, b) in bytes.iter().enumerate() {
+        if *b == separator {
+            return Some(place);
+        }
+    }
+    None
 }
 
 /// What stands before the first `separator`, and what behind it if there is one.
