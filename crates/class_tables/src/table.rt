@@ -34,6 +34,7 @@ impl SearchingTable {
     fn row(&self, class: u32) -> Option<&ClassRow>
         ensures { MatchOption result (HasNone (rows_of self.now) class) (λ row. Has (rows_of self.now) class (class_of row.now)) }
     {
+        // Tested at once: `checked_sub` and `get` alone compare once more at each call.
         if class == 0 || class > self.last {
             return None;
         }
